@@ -1,0 +1,3 @@
+pub mod EdgesHold
+pub mod EventLaws
+pub mod Tables

@@ -1,0 +1,13 @@
+pub mod Ascii
+pub mod Record
+pub mod Refusal
+pub mod Event
+pub mod Decimal
+pub mod Name
+pub mod Week
+pub mod Offset
+pub mod Reading
+pub mod Writing
+pub mod Format
+pub mod Size
+pub mod Edges

@@ -1,0 +1,48 @@
+-- The record, the longest inputs and the ranges (01, "What is bought" and "Writing a directive").
+use mathlib.Core.Bool.{Bool, true, false, _&&_}
+use mathlib.Core.List.{List, [], _∷_}
+use Prim.Native.Nat.{ℕ}
+use lib.Dec.{T, ltb, leb}
+use Rattle.rules.specs.declared.Record.{Record}
+
+-- "Longest inputs: format 4,096 bytes, zone 64, buffer 65,536."
+abbrev pub longestFormat : ℕ
+longestFormat = 4096
+
+abbrev pub longestZone : ℕ
+longestZone = 64
+
+abbrev pub longestBuffer : ℕ
+longestBuffer = 65536
+
+-- the fields that have a range. "Year, to_int, offset: any."
+pub data Field : Type 0 where
+  month day hour minute second nanoseconds weekday dayOfYear zoneName : Field
+
+-- "zone bytes below 128"
+unfoldable pub zoneOk : List ℕ → Bool
+zoneOk [] = true
+zoneOk (b ∷ zone) = ltb b 128 && zoneOk zone
+
+abbrev pub within : ℕ → ℕ → ℕ → Bool
+within least most n = leb least n && leb n most
+
+-- "month 1..12, day 1..31, hour 0..23, minute 0..59, second 0..60, nanoseconds to 999,999,999, weekday 0..6, day of year 1..366"
+unfoldable pub okField : Field → Record → List ℕ → Bool
+okField month r zone = within 1 12 (r .month)
+okField day r zone = within 1 31 (r .day)
+okField hour r zone = leb (r .hour) 23
+okField minute r zone = leb (r .minute) 59
+okField second r zone = leb (r .second) 60
+okField nanoseconds r zone = leb (r .nanoseconds) 999999999
+okField weekday r zone = leb (r .«day_of_week») 6
+okField dayOfYear r zone = within 1 366 (r .«day_of_year»)
+okField zoneName r zone = zoneOk zone
+
+unfoldable pub allOk : List Field → Record → List ℕ → Bool
+allOk [] r zone = true
+allOk (f ∷ fs) r zone = okField f r zone && allOk fs r zone
+
+-- all fields are in range
+abbrev pub InRange : Record → List ℕ → Type 0
+InRange r zone = (f : Field) → T (okField f r zone)

@@ -1,0 +1,24 @@
+-- The refusal table (01, "Refusal table"), and what an entry reports.
+use Prim.Native.Nat.{ℕ}
+use Rattle.rules.specs.declared.Refusal.{Refusal}
+use Rattle.rules.specs.declared.Refusal.the-variants.{InvalidTime, InvalidFormatString, FormattedStringTooLarge, WriteZero, InputTooLong, NoBuffer}
+use Rattle.rules.specs.declared.Answer.{Answer}
+use Rattle.rules.specs.declared.Answer.the-variants.{Done, Refused}
+
+unfoldable pub numberOf : Refusal → ℕ
+numberOf InvalidTime = 1
+numberOf InvalidFormatString = 2
+numberOf FormattedStringTooLarge = 3
+numberOf WriteZero = 4
+numberOf InputTooLong = 5
+numberOf NoBuffer = 6
+
+-- a number of the table, and a length or a size
+pub record Report : Type 0 where
+  pub number : ℕ
+  pub bytes : ℕ
+
+-- what an answer reports: 0 and its length, or its refusal and length 0
+unfoldable pub numbered : Answer → Report
+numbered (Done n) = record { number = 0; bytes = n }
+numbered (Refused r) = record { number = numberOf r; bytes = 0 }

@@ -1,0 +1,67 @@
+-- What the size of a format is, over any set of records and zone names (01, "Refusal table", sizing; the tender's third demand).
+use mathlib.Core.Path.{_≡_}
+use mathlib.Core.Bool.{Bool, true, false}
+use mathlib.Core.List.{List}
+use mathlib.Core.Logic.{_⊎_}
+use Prim.Native.Nat.{ℕ, _≤_, _<_}
+use lib.ListN.{length}
+use lib.IntN.{ℤ}
+use lib.Signed.{mag}
+use Rattle.rules.specs.declared.Record.{Record}
+use Rattle.rules.specs.Record.{InRange, longestFormat, longestZone, longestBuffer}
+use Rattle.rules.specs.Refusal.{Report}
+use Rattle.rules.specs.Event.{Outcome, done, refused, textOf}
+use Rattle.rules.specs.Writing.{eventsOf}
+use Rattle.rules.specs.Format.{items, events, whole, formatted}
+
+-- a set of records, each with its zone name
+abbrev pub Stamps : Type 1
+Stamps = Record → List ℕ → Type 0
+
+abbrev pub textFor : List ℕ → List ℕ → Record → List ℕ
+textFor format zone r = textOf (events (eventsOf r zone) (items format))
+
+-- "a buffer of N bytes gives every record .. its text or InvalidTime, and one record .. needs exactly N"
+pub record SizeIs (Every Some : Stamps) (format : List ℕ) (n : ℕ) : Type 0 where
+  pub serves : (r : Record) (zone : List ℕ) → Every r zone → (formatted format zone r n ≡ done (textFor format zone r)) ⊎ (formatted format zone r n ≡ refused 1)
+  pub one : Record
+  pub one-zone : List ℕ
+  pub one-in : Some one one-zone
+  pub one-fits : formatted format one-zone one n ≡ done (textFor format one-zone one)
+  pub one-needs : (room : ℕ) → room < n → formatted format one-zone one room ≡ refused 4
+
+-- "some such in-range record fits no buffer of 65,536 bytes or fewer"
+pub record NoneServes (Some : Stamps) (format : List ℕ) : Type 0 where
+  pub one : Record
+  pub one-zone : List ℕ
+  pub one-in : Some one one-zone
+  pub fits-none : (room : ℕ) → room ≤ longestBuffer → (text : List ℕ) → formatted format one-zone one room ≡ done text → ⊥
+
+-- the inputs keep the longest lengths
+pub record Kept (format : List ℕ) (longest : ℕ) : Type 0 where
+  pub format-short : length format ≤ longestFormat
+  pub zone-short : longest ≤ longestZone
+
+-- "Sizing: 5, then 2 for any format that ends inside a directive, then 6." "its refusals report size 0"
+pub data Sizing (Every Some : Stamps) (format : List ℕ) (longest : ℕ) : Report → Type 0 where
+  too-long : (longestFormat < length format) ⊎ (longestZone < longest) → Sizing Every Some format longest (record { number = 5; bytes = 0 })
+  ends-inside : Kept format longest → whole (items format) ≡ false → Sizing Every Some format longest (record { number = 2; bytes = 0 })
+  no-buffer : Kept format longest → whole (items format) ≡ true → NoneServes Some format → Sizing Every Some format longest (record { number = 6; bytes = 0 })
+  needs : (n : ℕ) → Kept format longest → whole (items format) ≡ true → SizeIs Every Some format n → Sizing Every Some format longest (record { number = 0; bytes = n })
+
+-- the numbers of a record fit their types
+pub record Typed (r : Record) : Type 0 where
+  pub year : mag (r .year) < 2147483648
+  pub to-int : mag (r .«to_int») < 9223372036854775808
+  pub utc-offset : mag (r .«utc_offset») < 2147483648
+
+-- "every record whose zone name is no longer than that"
+pub record AnyStamp (longest : ℕ) (r : Record) (zone : List ℕ) : Type 0 where
+  pub typed : Typed r
+  pub short : length zone ≤ longest
+
+-- "one record with all fields in range"
+pub record GoodStamp (longest : ℕ) (r : Record) (zone : List ℕ) : Type 0 where
+  pub typed : Typed r
+  pub in-range : InRange r zone
+  pub short : length zone ≤ longest

@@ -1,0 +1,222 @@
+// The plain types that every crate shares. What each means is in specs/, in the words of the precise rules.
+ghost use mathlib.Core.Path.{_≡_};
+ghost use mathlib.Core.Bool.{_||_};
+ghost use Rattle.rules.specs.Reading.{noFlags, withFlag, hasFlag};
+
+// A time, flat: the fields are independent. The zone name is a byte slice beside it.
+pub struct Record {
+    pub year: i32,
+    pub month: u8,
+    pub day: u8,
+    pub hour: u8,
+    pub minute: u8,
+    pub second: u8,
+    pub nanoseconds: u32,
+    pub day_of_week: u8,
+    pub day_of_year: u16,
+    pub to_int: i64,
+    pub is_utc: bool,
+    pub utc_offset: i32,
+}
+
+pub enum Flag {
+    LeftPadding,
+    ChangeCase,
+    UpperCase,
+}
+
+pub struct Flags {
+    pub left: bool,
+    pub change: bool,
+    pub upper: bool,
+}
+
+impl Flags {
+    pub fn new() -> Flags
+        ensures { λ r. ⌜ r ≡ noFlags ⌝ }
+    {
+        Flags {
+            left: false,
+            change: false,
+            upper: false,
+        }
+    }
+
+    pub fn set(mut self, flag: Flag) -> Flags
+        ensures { λ r. ⌜ r ≡ withFlag self flag ⌝ }
+    {
+        match flag {
+            Flag::LeftPadding => self.left = true,
+            Flag::ChangeCase => self.change = true,
+            Flag::UpperCase => self.upper = true,
+        }
+        self
+    }
+
+    pub fn contains(self, flag: Flag) -> bool
+        ensures { λ r. ⌜ r ≡ hasFlag self flag ⌝ }
+    {
+        match flag {
+            Flag::LeftPadding => self.left,
+            Flag::ChangeCase => self.change,
+            Flag::UpperCase => self.upper,
+        }
+    }
+
+    pub fn has_change_or_upper_case(self) -> bool
+        ensures { λ r. ⌜ r ≡ (self .change || self .upper) ⌝ }
+    {
+        self.change || self.upper
+    }
+}
+
+pub enum Padding {
+    Left,
+    Spaces,
+    Zeros,
+}
+
+// The directives by kind, the original's names in each kind.
+pub enum Number {
+    Year4Digits,
+    YearDiv100,
+    YearRem100,
+    Month,
+    MonthDayZero,
+    MonthDaySpace,
+    YearDay,
+    Hour24hZero,
+    Hour24hSpace,
+    Hour12hZero,
+    Hour12hSpace,
+    Minute,
+    Second,
+    WeekDayFrom1,
+    WeekDayFrom0,
+    YearIso8601,
+    YearIso8601Rem100,
+    WeekNumberIso8601,
+    WeekNumberFromSunday,
+    WeekNumberFromMonday,
+    SecondsSinceEpoch,
+}
+
+pub enum Name {
+    MonthName,
+    MonthNameAbbr,
+    MeridianLower,
+    MeridianUpper,
+    WeekDayName,
+    WeekDayNameAbbr,
+}
+
+pub enum Fraction {
+    MilliSecond,
+    FractionalSecond,
+}
+
+pub enum Offset {
+    TimeZoneOffsetHourMinute,
+    TimeZoneOffsetHourMinuteColon,
+    TimeZoneOffsetHourMinuteSecondColon,
+    TimeZoneOffsetColonMinimal,
+}
+
+pub enum Fixed {
+    Newline,
+    Tabulation,
+    Percent,
+}
+
+pub enum Combination {
+    CombinationDateTime,
+    CombinationDate,
+    CombinationIso8601,
+    CombinationVmsDate,
+    CombinationTime12h,
+    CombinationHourMinute24h,
+    CombinationTime24h,
+}
+
+pub enum Spec {
+    Number(Number),
+    Name(Name),
+    Fraction(Fraction),
+    Offset(Offset),
+    TimeZoneName,
+    Fixed(Fixed),
+    Combination(Combination),
+}
+
+// A week-based year and its week number.
+pub struct IsoWeek {
+    pub year: i64,
+    pub week: u8,
+}
+
+// What the table of directives has for a letter.
+pub enum Entry {
+    Is(Spec),
+    Missing,
+}
+
+pub enum Width {
+    Unset,
+    Of(usize),
+}
+
+// A directive. `skipped`: an `E` or `O` stood before its letter.
+pub struct Piece {
+    pub width: Width,
+    pub padding: Padding,
+    pub flags: Flags,
+    pub spec: Spec,
+    pub skipped: bool,
+}
+
+// What stands at a percent sign: a directive or an echo, and where the format goes on; or the format ends inside it.
+pub enum Parsed {
+    Directive(Piece, usize),
+    Echo(usize),
+    Cut,
+}
+
+pub struct Options {
+    pub padding: Padding,
+    pub flags: Flags,
+}
+
+pub enum Modifier {
+    E,
+    O,
+}
+
+// Where the reading of a directive stands between two bytes.
+pub enum Reading {
+    InFlags(Options),
+    InWidth(Options, usize),
+    AtModifier(Options, Width, Modifier),
+    InColons(Options, Width, usize),
+}
+
+// What one more byte does: the directive goes on; it ends with this byte, as a piece or as an echo; it ended before it, as an echo.
+pub enum Turn {
+    More(Reading),
+    Found(Piece),
+    Echoed,
+    Unread,
+}
+
+pub enum Refusal {
+    InvalidTime,
+    InvalidFormatString,
+    FormattedStringTooLarge,
+    WriteZero,
+    InputTooLong,
+    NoBuffer,
+}
+
+pub enum Answer {
+    Done(usize),
+    Refused(Refusal),
+}
