@@ -1,0 +1,48 @@
+-- Any two answers that an entry's promise allows are equal: what is promised is a function, and no two answers report alike.
+use mathlib.Core.Path.{_≡_, refl, sym, ap, _∙_}
+use mathlib.Core.Bool.{cond}
+use mathlib.Core.List.{List}
+use Prim.Native.Nat.{ℕ}
+use lib.Dec.{eqb}
+use lib.ListN.{length}
+use Rattle.rules.specs.declared.Record.{Record}
+use Rattle.rules.specs.declared.Refusal.{Refusal}
+use Rattle.rules.specs.declared.Refusal.the-variants.{InvalidTime, InvalidFormatString, FormattedStringTooLarge, WriteZero, InputTooLong, NoBuffer}
+use Rattle.rules.specs.declared.Answer.{Answer}
+use Rattle.rules.specs.declared.Answer.the-variants.{Done, Refused}
+use Rattle.rules.specs.Refusal.{numberOf, Report, numbered}
+use Rattle.rules.specs.Event.{reported, bufferAfter}
+use Rattle.rules.specs.Format.{formatted}
+
+-- back from a number of the table, and from a report
+refusalAt : ℕ → Refusal
+refusalAt n =
+    cond (eqb n 1) InvalidTime
+    (cond (eqb n 2) InvalidFormatString
+    (cond (eqb n 3) FormattedStringTooLarge
+    (cond (eqb n 4) WriteZero
+    (cond (eqb n 5) InputTooLong
+    NoBuffer))))
+
+answerBy : Report → Answer
+answerBy r = cond (eqb (r .number) 0) (Done (r .bytes)) (Refused (refusalAt (r .number)))
+
+back : (a : Answer) → answerBy (numbered a) ≡ a
+unfolding answerBy refusalAt numbered numberOf
+back (Done n) = refl
+back (Refused InvalidTime) = refl
+back (Refused InvalidFormatString) = refl
+back (Refused FormattedStringTooLarge) = refl
+back (Refused WriteZero) = refl
+back (Refused InputTooLong) = refl
+back (Refused NoBuffer) = refl
+
+pub one-answer : (a b : Answer) → numbered a ≡ numbered b → a ≡ b
+one-answer a b e = sym (back a) ∙ ap answerBy e ∙ back b
+
+-- two answers, each with the buffer that it leaves, that the promise of the formatting entry allows
+pub formatted-once : (format zone : List ℕ) (r : Record) (buffer : List ℕ) (a b : Answer) (after-a after-b : List ℕ) →
+    numbered a ≡ reported (formatted format zone r (length buffer)) → after-a ≡ bufferAfter (formatted format zone r (length buffer)) buffer →
+    numbered b ≡ reported (formatted format zone r (length buffer)) → after-b ≡ bufferAfter (formatted format zone r (length buffer)) buffer →
+    (a ≡ b) × (after-a ≡ after-b)
+formatted-once format zone r buffer a b after-a after-b p q p′ q′ = (one-answer a b (p ∙ sym p′), q ∙ sym q′)
