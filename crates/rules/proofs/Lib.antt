@@ -5,3 +5,4 @@ pub mod OneAnswer
 pub mod Resume
 pub mod Tables
 pub mod Walk
+pub mod WritingLaws

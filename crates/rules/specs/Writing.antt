@@ -301,7 +301,8 @@ bodyOf (fixed f) p r zone = nameWrites p (fixedByte f ∷ [])
 bodyOf (combination c) p r zone = put (combinationText c (p .flags) r) ∷ []
 
 -- InvalidTime, 1: "a field the directive reads is out of range". "A field that no directive reads isn't checked."
+unfoldable pub specEvents : Spec → Piece → Record → List ℕ → List Event
+specEvents s p r zone = map write (leadOf s p (r .year)) ++ (check (allOk (fieldsOf s) r zone) 1 ∷ map write (bodyOf s p r zone))
+
 unfoldable pub eventsOf : Record → List ℕ → Piece → List Event
-eventsOf r zone p =
-    map write (leadOf (p .spec) p (r .year))
-    ++ (check (allOk (fieldsOf (p .spec)) r zone) 1 ∷ map write (bodyOf (p .spec) p r zone))
+eventsOf r zone p = specEvents (p .spec) p r zone
