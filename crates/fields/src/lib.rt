@@ -1,0 +1,93 @@
+// check.rs: whether a field is in its range.
+ghost use mathlib.Core.Path.{_≡_};
+ghost use mathlib.Core.List.{List, [], _∷_};
+ghost use Prim.Native.Nat.{ℕ};
+ghost use Rattle.rules.specs.Record.{okField, allOk, zoneOk, month, day, hour, minute, second, nanoseconds, weekday, dayOfYear};
+ghost use Rattle.rules.specs.Writing.{combinationFields};
+ghost use Rattle.rules.specs.declared.Combination.the-variants.{CombinationDateTime};
+use rules::Record;
+
+pub fn month(record: Record) -> bool
+    ensures { λ r. ⌜ ((zone : List ℕ) → r ≡ okField month «record» zone) ⌝ }
+{
+    1 <= record.month && record.month <= 12
+}
+
+pub fn day(record: Record) -> bool
+    ensures { λ r. ⌜ ((zone : List ℕ) → r ≡ okField day «record» zone) ⌝ }
+{
+    1 <= record.day && record.day <= 31
+}
+
+pub fn hour(record: Record) -> bool
+    ensures { λ r. ⌜ ((zone : List ℕ) → r ≡ okField hour «record» zone) ⌝ }
+{
+    record.hour <= 23
+}
+
+pub fn minute(record: Record) -> bool
+    ensures { λ r. ⌜ ((zone : List ℕ) → r ≡ okField minute «record» zone) ⌝ }
+{
+    record.minute <= 59
+}
+
+pub fn second(record: Record) -> bool
+    ensures { λ r. ⌜ ((zone : List ℕ) → r ≡ okField second «record» zone) ⌝ }
+{
+    record.second <= 60
+}
+
+pub fn nanoseconds(record: Record) -> bool
+    ensures { λ r. ⌜ ((zone : List ℕ) → r ≡ okField nanoseconds «record» zone) ⌝ }
+{
+    record.nanoseconds <= 999_999_999
+}
+
+pub fn day_of_week(record: Record) -> bool
+    ensures { λ r. ⌜ ((zone : List ℕ) → r ≡ okField weekday «record» zone) ⌝ }
+{
+    record.day_of_week <= 6
+}
+
+pub fn day_of_year(record: Record) -> bool
+    ensures { λ r. ⌜ ((zone : List ℕ) → r ≡ okField dayOfYear «record» zone) ⌝ }
+{
+    1 <= record.day_of_year && record.day_of_year <= 366
+}
+
+pub fn time_zone(zone: &[u8]) -> bool
+    ensures { λ r. ⌜ r ≡ zoneOk (now (zone .entry)) ⌝ }
+{
+    let mut i = 0;
+    while i < zone.len() {
+        if zone[i] >= 128 {
+            return false;
+        }
+        i += 1;
+    }
+    true
+}
+
+pub fn date(record: Record) -> bool
+    ensures { λ r. ⌜ ((zone : List ℕ) → r ≡ allOk (month ∷ day ∷ []) «record» zone) ⌝ }
+{
+    month(record) && day(record)
+}
+
+pub fn clock(record: Record) -> bool
+    ensures { λ r. ⌜ ((zone : List ℕ) → r ≡ allOk (hour ∷ minute ∷ second ∷ []) «record» zone) ⌝ }
+{
+    hour(record) && minute(record) && second(record)
+}
+
+pub fn week(record: Record) -> bool
+    ensures { λ r. ⌜ ((zone : List ℕ) → r ≡ allOk (weekday ∷ dayOfYear ∷ []) «record» zone) ⌝ }
+{
+    day_of_week(record) && day_of_year(record)
+}
+
+pub fn date_time(record: Record) -> bool
+    ensures { λ r. ⌜ ((zone : List ℕ) → r ≡ allOk (combinationFields CombinationDateTime) «record» zone) ⌝ }
+{
+    day_of_week(record) && date(record) && clock(record)
+}
