@@ -1,3 +1,4 @@
+pub mod DecimalLaws
 pub mod EdgesHold
 pub mod EventLaws
 pub mod Joining

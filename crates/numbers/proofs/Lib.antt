@@ -1,0 +1,4 @@
+pub mod CountLaws
+pub mod PlacesLaws
+pub mod Signed
+pub mod TextLaws

@@ -1,0 +1,89 @@
+-- How a signed number goes through the machine: what is read back of what was written, and the two signs.
+use mathlib.Core.Path.{_≡_, refl, sym, ap, _∙_, subst, subst⁻¹}
+use mathlib.Core.Bool.{true, false}
+use Prim.Native.Nat.{ℕ, zero, suc, _+_, _-_, _^_, _<_, _≤_}
+use native.Mathlib.Omega.{arith}
+use lib.IntN.{ℤ, pos, negsuc, _-ℤ_, _+ℤ_, natAbs, sucℤ, predℤ, +ℤ-one, -ℤ-one}
+use lib.Signed.{mag, ltZ, nonNeg}
+use lib.Dec.{T}
+use borrow.Author.Tests.{ltb-true, le-ltb}
+use mir.Syntax.{Width, w32, w64}
+use mir.Val.{SFits, Fits, ofZ, toZ, hbits}
+use mir.ValLaws.{toZ-ofZ, toZ-pos}
+
+-- what is read back of a value that is known to be z
+pub through : (w : Width) {y z : ℤ} → y ≡ z → SFits w z → toZ w (ofZ w y) ≡ z
+through w {y} {z} e f = ap (λ (k : ℤ). toZ w (ofZ w k)) e ∙ toZ-ofZ w z f
+
+-- what a cast to an unsigned width asks of a value that is known to be n
+pub cast-fits : (w : Width) {z : ℤ} {n : ℕ} → z ≡ pos n → Fits w n → T (nonNeg z) × Fits w (natAbs z)
+cast-fits w e f = subst⁻¹ (λ (z : ℤ). T (nonNeg z) × Fits w (natAbs z)) e (tt, f)
+
+-- an i32 as an i64
+pub widened-fits : (z : ℤ) → SFits w32 z → SFits w64 z
+widened-fits z f = record { sfits = omega (arith, f .sfits) }
+
+pub widened : (z : ℤ) → SFits w32 z → toZ w64 (ofZ w64 (toZ w32 (ofZ w32 z))) ≡ z
+widened z f = through w64 (toZ-ofZ w32 z f) (widened-fits z f)
+
+-- the absolute value is the magnitude, or one more
+pub abs-le : (z : ℤ) → natAbs z ≤ mag z + 1
+abs-le (pos n) = omega arith
+abs-le (negsuc n) = omega arith
+
+-- the sign, from the test x < 0
+pub neg-mag : (x : ℤ) → ltZ x (pos 0) ≡ true → x ≡ negsuc (mag x)
+neg-mag (pos n) t = let h : n < 0 = ltb-true n 0 t in absurd (omega arith)
+neg-mag (negsuc n) t = refl
+
+pub pos-mag : (x : ℤ) → ltZ x (pos 0) ≡ false → x ≡ pos (mag x)
+pos-mag (pos n) t = refl
+pos-mag (negsuc n) t = let z : true ≡ false = t in cc
+
+pub is-neg : (w : Width) (x : ℤ) → SFits w x → ltZ (toZ w (ofZ w x)) (pos 0) ≡ true → x ≡ negsuc (mag x)
+is-neg w x f t = neg-mag x (rw (toZ-ofZ w x f) at t)
+
+pub is-pos : (w : Width) (x : ℤ) → SFits w x → ltZ (toZ w (ofZ w x)) (pos 0) ≡ false → x ≡ pos (mag x)
+is-pos w x f t = pos-mag x (rw (toZ-ofZ w x f) at t)
+
+-- −1 − (−(n + 1)) is n, and −1 − n is −(n + 1)
+pub flip-neg : (n : ℕ) → negsuc 0 -ℤ negsuc n ≡ pos n
+flip-neg n =
+    let h : 1 ≤ suc n = omega arith in
+    let e : suc n - 1 ≡ n = omega arith in
+    rw (le-ltb (suc n) 1 h) (ap pos e)
+
+pub flip-pos : (n : ℕ) → negsuc 0 -ℤ pos n ≡ negsuc n
+flip-pos zero = refl
+flip-pos (suc n) = ap (λ (k : ℕ). negsuc (suc k)) (omega arith)
+
+-- −1 − n of an unsigned n that was cast
+pub flip-cast : (w : Width) (n : ℕ) → n < 2 ^ hbits w → negsuc 0 -ℤ toZ w n ≡ negsuc n
+flip-cast w n h = ap (λ (z : ℤ). negsuc 0 -ℤ z) (toZ-pos w n h) ∙ flip-pos n
+
+-- −1 − x of a negative x, as the code computes it
+pub flipped : (w : Width) (x : ℤ) → SFits w x → ltZ (toZ w (ofZ w x)) (pos 0) ≡ true → negsuc 0 -ℤ toZ w (ofZ w x) ≡ pos (mag x)
+flipped w x f t = ap (λ (z : ℤ). negsuc 0 -ℤ z) (toZ-ofZ w x f ∙ is-neg w x f t) ∙ flip-neg (mag x)
+
+pub flipped-read : (w : Width) (x : ℤ) → SFits w x → ltZ (toZ w (ofZ w x)) (pos 0) ≡ true → toZ w (ofZ w (negsuc 0 -ℤ toZ w (ofZ w x))) ≡ pos (mag x)
+flipped-read w x f t = through w (flipped w x f t) (record { sfits = f .sfits })
+
+pub plain-read : (w : Width) (x : ℤ) → SFits w x → ltZ (toZ w (ofZ w x)) (pos 0) ≡ false → toZ w (ofZ w x) ≡ pos (mag x)
+plain-read w x f t = toZ-ofZ w x f ∙ is-pos w x f t
+
+-- one more and one less is at most one further from 0
+mag-suc : (z : ℤ) → mag (sucℤ z) ≤ mag z + 1
+mag-suc (pos n) = omega arith
+mag-suc (negsuc zero) = omega arith
+mag-suc (negsuc (suc n)) = omega arith
+
+mag-pred : (z : ℤ) → mag (predℤ z) ≤ mag z + 1
+mag-pred (pos zero) = omega arith
+mag-pred (pos (suc n)) = omega arith
+mag-pred (negsuc n) = omega arith
+
+pub mag-inc : (z : ℤ) → mag (z +ℤ pos 1) ≤ mag z + 1
+mag-inc z = subst (λ (y : ℤ). mag y ≤ mag z + 1) (sym (+ℤ-one z)) (mag-suc z)
+
+pub mag-dec : (z : ℤ) → mag (z -ℤ pos 1) ≤ mag z + 1
+mag-dec z = subst (λ (y : ℤ). mag y ≤ mag z + 1) (sym (-ℤ-one z)) (mag-pred z)

@@ -1,0 +1,5 @@
+pub mod OverlayLaws
+pub mod PlaceLaws
+pub mod CountLaws
+pub mod RanLaws
+pub mod EntryLaws

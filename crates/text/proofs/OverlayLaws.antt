@@ -1,0 +1,81 @@
+-- The laws of a text laid over a list: texts one after the other, a text that fits, a text laid byte by byte.
+use mathlib.Core.Path.{_≡_, refl, sym, ap, _∙_}
+use mathlib.Core.List.{List, [], _∷_, _++_}
+use Prim.Native.Nat.{ℕ, suc, _+_, _≤_, _<_}
+use native.Mathlib.Nat.{add-zero, suc-add, add-suc, zero-add}
+use native.Mathlib.Numerals.{add-one}
+use native.Mathlib.Omega.{arith}
+use lib.ListN.{length, getD, set, take, drop, replicate, length-set, length-replicate, getD-replicate}
+use lib.Seq.{set-out, sets, sets-eq, take-suc, take-all, length-take-le}
+use Rattle.text.specs.Overlay.{overlay}
+
+pub overlay-nil : (at : ℕ) (l : List ℕ) → overlay at [] l ≡ l
+unfolding overlay
+overlay-nil at l = refl
+
+pub overlay-one : (at b : ℕ) (l : List ℕ) → overlay at (b ∷ []) l ≡ set l at b
+unfolding overlay
+overlay-one at b l = refl
+
+pub overlay-two : (at a b : ℕ) (l : List ℕ) → overlay at (a ∷ b ∷ []) l ≡ set (set l at a) (at + 1) b
+unfolding overlay
+overlay-two at a b l = rw add-one
+
+pub length-overlay : (at : ℕ) (t l : List ℕ) → length (overlay at t l) ≡ length l
+unfolding overlay
+length-overlay at [] l = refl
+length-overlay at (b ∷ t) l = length-overlay (suc at) t (set l at b) ∙ length-set l at b
+
+pub overlay-append : (at : ℕ) (a b l : List ℕ) → overlay at (a ++ b) l ≡ overlay (at + length a) b (overlay at a l)
+unfolding overlay
+overlay-append at [] b l = ap (λ (k : ℕ). overlay k b l) (sym (add-zero at))
+overlay-append at (x ∷ a) b l =
+    overlay-append (suc at) a b (set l at x)
+    ∙ ap (λ (k : ℕ). overlay k b (overlay (suc at) a (set l at x))) (suc-add at (length a) ∙ sym (add-suc at (length a)))
+
+-- past the end nothing is laid
+pub overlay-out : (at : ℕ) (t l : List ℕ) → length l ≤ at → overlay at t l ≡ l
+unfolding overlay
+overlay-out at [] l h = refl
+overlay-out at (b ∷ t) l h = ap (λ (k : List ℕ). overlay (suc at) t k) (set-out l at b h) ∙ overlay-out (suc at) t l (omega arith)
+
+overlay-sets : (at : ℕ) (t l : List ℕ) → overlay at t l ≡ sets l at t
+unfolding overlay
+overlay-sets at [] l = refl
+overlay-sets at (b ∷ t) l = overlay-sets (suc at) t (set l at b)
+
+-- a text that fits, and one that fits from the start
+pub overlay-fits : (at : ℕ) (t l : List ℕ) → at + length t ≤ length l → overlay at t l ≡ take at l ++ t ++ drop (at + length t) l
+overlay-fits at t l h = overlay-sets at t l ∙ sets-eq t l at h
+
+pub overlay-front : (t l : List ℕ) → length t ≤ length l → overlay 0 t l ≡ t ++ drop (length t) l
+overlay-front t l h = overlay-fits 0 t l (omega arith) ∙ ap (λ (k : ℕ). t ++ drop k l) (zero-add (length t))
+
+pub overlay-taken : (n : ℕ) (s l : List ℕ) → n ≤ length s → n ≤ length l → overlay 0 (take n s) l ≡ take n s ++ drop n l
+overlay-taken n s l h g =
+    let e = length-take-le n s h in
+    overlay-front (take n s) l (omega arith) ∙ ap (λ (k : ℕ). take n s ++ drop k l) e
+
+-- ## A loop that lays the text t over l from place `at` on, byte by byte: after j turns
+
+pub record Laid (at : ℕ) (t l : List ℕ) (j : ℕ) (l′ : List ℕ) : Type 0 where
+  pub bytes : l′ ≡ overlay at (take j t) l
+  pub kept : length l′ ≡ length l
+
+module _ {at : ℕ} {t l : List ℕ} where
+  pub laid-none : Laid at t l 0 l
+  laid-none = record { bytes = sym (overlay-nil at l); kept = refl }
+
+  pub laid-more : {j : ℕ} {l′ : List ℕ} → Laid at t l j l′ → j < length t → Laid at t l (j + 1) (set l′ (at + j) (getD t j 0))
+  laid-more {j} {l′} w h =
+      record {
+        bytes = rw (w .bytes) (sym (rw (add-one, take-suc t j 0, overlay-append, length-take-le j t (omega arith), overlay-one)));
+        kept = simp length-set (w .kept);
+      }
+
+  pub laid-all : {j : ℕ} {l′ : List ℕ} → Laid at t l j l′ → length t ≤ j → l′ ≡ overlay at t l
+  laid-all {j} w h = w .bytes ∙ ap (λ (s : List ℕ). overlay at s l) (take-all j t h)
+
+-- the same of one byte, n times
+pub laid-again : (n b : ℕ) {at : ℕ} {l : List ℕ} {j : ℕ} {l′ : List ℕ} → Laid at (replicate n b) l j l′ → j < n → Laid at (replicate n b) l (j + 1) (set l′ (at + j) b)
+laid-again n b w h = rw (getD-replicate n _ b 0 h) at (laid-more w (simp length-replicate h))

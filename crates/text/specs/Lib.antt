@@ -1,0 +1,3 @@
+pub mod Overlay
+pub mod Ran
+pub mod Room
