@@ -2,11 +2,11 @@
 ghost use mathlib.Core.Path.{_≡_};
 ghost use mathlib.Core.Bool.{not, cond};
 ghost use lib.Dec.{T};
-ghost use lib.IntN.{natAbs};
 ghost use lib.Ieee.{isNan};
 ghost use Rattle.rules.specs.Offset.{hoursOf, minutesOf, secondsOf, minus};
 ghost use Rattle.offset.specs.Hour.{hourOf, isSignNegative, belowTen, wholeHours, isHour};
 ghost use Rattle.offset.specs.Parts.{partsFor};
+use numbers::unsigned_abs;
 
 pub struct UtcOffset {
     pub hour: f64,
@@ -21,18 +21,6 @@ pub struct OffsetParts {
     pub hours: u32,
     pub minute: u8,
     pub second: u8,
-}
-
-// The absolute value, of the least i32 too.
-fn unsigned_abs(z: i32) -> u32
-    ensures { λ r. ⌜ r ≡ natAbs z ⌝ }
-{
-    let wide = z as i64;
-    if wide < 0 {
-        (-wide) as u32
-    } else {
-        wide as u32
-    }
 }
 
 // UTC is written "-00:00" under the left flag.
