@@ -1,4 +1,5 @@
 pub mod DecimalLaws
+pub mod Demands
 pub mod EdgesHold
 pub mod EventLaws
 pub mod Joining

@@ -1,6 +1,6 @@
 -- The laws of a text laid over a list: texts one after the other, a text that fits, a text laid byte by byte.
 use mathlib.Core.Path.{_≡_, refl, sym, ap, _∙_}
-use mathlib.Core.List.{List, [], _∷_, _++_}
+use mathlib.Core.List.{List, [], _∷_, _++_, append-assoc}
 use Prim.Native.Nat.{ℕ, suc, _+_, _≤_, _<_}
 use native.Mathlib.Nat.{add-zero, suc-add, add-suc, zero-add}
 use native.Mathlib.Numerals.{add-one}
@@ -47,6 +47,10 @@ overlay-sets at (b ∷ t) l = overlay-sets (suc at) t (set l at b)
 -- a text that fits, and one that fits from the start
 pub overlay-fits : (at : ℕ) (t l : List ℕ) → at + length t ≤ length l → overlay at t l ≡ take at l ++ t ++ drop (at + length t) l
 overlay-fits at t l h = overlay-sets at t l ∙ sets-eq t l at h
+
+pub overlay-between : (at k : ℕ) (t l : List ℕ) {l′ : List ℕ} → length t ≡ k → at + k ≤ length l → l′ ≡ take at l ++ (t ++ drop (at + k) l) → l′ ≡ overlay at t l
+overlay-between at k t l e h q =
+    q ∙ sym (overlay-fits at t l (omega arith) ∙ append-assoc (take at l) t (drop (at + length t) l) ∙ ap (λ (m : ℕ). take at l ++ (t ++ drop (at + m) l)) e)
 
 pub overlay-front : (t l : List ℕ) → length t ≤ length l → overlay 0 t l ≡ t ++ drop (length t) l
 overlay-front t l h = overlay-fits 0 t l (omega arith) ∙ ap (λ (k : ℕ). t ++ drop k l) (zero-add (length t))

@@ -145,6 +145,18 @@ pub fn put_two(out: &mut [u8], at: usize, room: usize, v: u8) -> usize
     missed(at, 2, room)
 }
 
+// The last `count` decimal digits of v, with zeros in front where v has fewer.
+pub fn put_places(out: &mut [u8], at: usize, room: usize, count: usize, v: u64) -> usize
+    requires { ⌜ Room (now out) room × (count ≤ 20) ⌝ }
+    ensures { λ r. ⌜ ((limit : ℕ) → Ran limit room (event.write (event.put (places count v)) ∷ []) (now (out .entry)) at (now (out .exit)) r) ⌝ }
+{
+    if fits(at, count, out.len()) {
+        numbers::write_places(out, at, count, v);
+        return at + count;
+    }
+    missed(at, count, room)
+}
+
 // The first `count` bytes of `src`, over those of `out`.
 pub fn copy_front(out: &mut [u8], src: &[u8], count: usize)
     requires { ⌜ (count ≤ length (now out)) × (count ≤ length (now src)) ⌝ }

@@ -1,21 +1,16 @@
 -- Two stores lay the two digits over the slice, or they are missed.
-use mathlib.Core.Path.{_≡_, refl, sym, ap, _∙_}
-use mathlib.Core.List.{[], _∷_}
-use Prim.Native.Nat.{ℕ, _+_, _/_, _%_, _<_}
+use mathlib.Core.Path.{refl, sym, ap, _∙_}
 use native.Mathlib.Omega.{arith}
 use lib.ListN.{length, length-set}
 use borrow.Author.Tests.{leb-true}
 use Rattle.rules.specs.Decimal.{places}
+use Rattle.rules.proofs.DecimalLaws.{two-digits-below}
 use Rattle.text.proofs.OverlayLaws.{overlay-two}
 use Rattle.text.proofs.RanLaws.{said, placed}
 use Rattle.text.proofs.PlaceLaws.{fits-yes, fits-no}
 use borrow.Author.Needs.{needs}
 use Rattle.text.proofs.put_two.Statement.{statement}
 use Rattle.text.proofs.put_two.Tie as tie
-
-two-places : (v : ℕ) → v < 100 → places 2 v ≡ (48 + v / 10) ∷ (48 + v % 10) ∷ []
-unfolding places
-two-places v h = let e : v / 10 % 10 ≡ v / 10 = omega arith in rw e
 
 fits-requires : tie.Need-fits-requires
 fits-requires c κs = search needs
@@ -44,7 +39,7 @@ same-length c = search needs
 returns : tie.Need-returns
 returns c =
     let k = fits-yes _ _ (c .before .fits2 .ensures) (c .if1 .taken) in
-    λ limit. said (sym (two-places _ (c .before .before .before .pre .1))) (placed (sym (overlay-two _ _ _ _)) refl k (c .before .before .before .pre .0))
+    λ limit. said (sym (two-digits-below _ (c .before .before .before .pre .1))) (placed (sym (overlay-two _ _ _ _)) refl k (c .before .before .before .pre .0))
 
 missed-requires : tie.Need-missed-requires
 missed-requires c κs = search needs
@@ -53,7 +48,7 @@ returns-2 : tie.Need-returns-2
 returns-2 c =
     let k = fits-no _ _ (c .before .before .fits2 .ensures) (c .before .if1 .left) in
     let v = c .before .before .before .before .args .v in
-    λ limit. c .missed .ensures limit (places 2 v) _ (ap length (two-places v (c .before .before .before .before .pre .1))) (c .before .before .before .before .pre .0 .within) k
+    λ limit. c .missed .ensures limit (places 2 v) _ (ap length (two-digits-below v (c .before .before .before .before .pre .1))) (c .before .before .before .before .pre .0 .within) k
 
 pub put-two-spec : {M : Type 1} → statement M
 put-two-spec =

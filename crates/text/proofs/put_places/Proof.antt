@@ -1,0 +1,53 @@
+-- The places laid between what stands in front and behind, or missed.
+use mathlib.Core.Path.{sym, ap, _∙_}
+use Prim.Native.Nat.{ℕ, _+_}
+use native.Mathlib.Omega.{arith}
+use borrow.Author.Tests.{leb-true}
+use Rattle.rules.specs.Decimal.{places}
+use Rattle.rules.proofs.DecimalLaws.{length-places}
+use Rattle.text.proofs.OverlayLaws.{overlay-between}
+use Rattle.text.proofs.RanLaws.{placed}
+use Rattle.text.proofs.PlaceLaws.{fits-yes, fits-no}
+use borrow.Author.Needs.{needs}
+use Rattle.text.proofs.put_places.Statement.{statement}
+use Rattle.text.proofs.put_places.Tie as tie
+
+fits-requires : tie.Need-fits-requires
+fits-requires c κs = search needs
+
+write-places-requires : tie.Need-write-places-requires
+write-places-requires c κs = fits-yes _ _ (c .before .before .fits2 .ensures) (c .before .if1 .taken)
+
+add-result : tie.Need-add-result
+add-result c = let k = sym (c .before .before .before .before .before .fits2 .ensures) ∙ c .before .before .before .before .if1 .taken in omega (arith, leb-true)
+
+same-length : tie.Need-same-length
+same-length c = search needs
+
+returns : tie.Need-returns
+returns c =
+    let a = c .before .before .before .before .before .before .before .args in
+    let k = fits-yes _ _ (c .before .before .before .before .before .fits2 .ensures) (c .before .before .before .before .if1 .taken) in
+    let e = length-places (a .count) (a .v) in
+    λ limit. placed (overlay-between _ _ _ _ e k (c .before .before .write-places .ensures)) (ap (λ (n : ℕ). a .at + n) (sym e)) k (c .before .before .before .before .before .before .before .pre .0)
+
+missed-requires : tie.Need-missed-requires
+missed-requires c κs = search needs
+
+returns-2 : tie.Need-returns-2
+returns-2 c =
+    let a = c .before .before .before .before .args in
+    let k = fits-no _ _ (c .before .before .fits2 .ensures) (c .before .if1 .left) in
+    λ limit. c .missed .ensures limit (places (a .count) (a .v)) _ (length-places (a .count) (a .v)) (c .before .before .before .before .pre .0 .within) k
+
+pub put-places-spec : {M : Type 1} → statement M
+put-places-spec =
+    tie.close
+    (tie.spec
+    fits-requires
+    write-places-requires
+    add-result
+    same-length
+    returns
+    missed-requires
+    returns-2)
