@@ -70,20 +70,3 @@ flipped-read w x f t = through w (flipped w x f t) (record { sfits = f .sfits })
 
 pub plain-read : (w : Width) (x : ℤ) → SFits w x → ltZ (toZ w (ofZ w x)) (pos 0) ≡ false → toZ w (ofZ w x) ≡ pos (mag x)
 plain-read w x f t = toZ-ofZ w x f ∙ is-pos w x f t
-
--- one more and one less is at most one further from 0
-mag-suc : (z : ℤ) → mag (sucℤ z) ≤ mag z + 1
-mag-suc (pos n) = omega arith
-mag-suc (negsuc zero) = omega arith
-mag-suc (negsuc (suc n)) = omega arith
-
-mag-pred : (z : ℤ) → mag (predℤ z) ≤ mag z + 1
-mag-pred (pos zero) = omega arith
-mag-pred (pos (suc n)) = omega arith
-mag-pred (negsuc n) = omega arith
-
-pub mag-inc : (z : ℤ) → mag (z +ℤ pos 1) ≤ mag z + 1
-mag-inc z = subst (λ (y : ℤ). mag y ≤ mag z + 1) (sym (+ℤ-one z)) (mag-suc z)
-
-pub mag-dec : (z : ℤ) → mag (z -ℤ pos 1) ≤ mag z + 1
-mag-dec z = subst (λ (y : ℤ). mag y ≤ mag z + 1) (sym (-ℤ-one z)) (mag-pred z)

@@ -8,11 +8,17 @@ use native.Mathlib.Omega.{arith}
 use lib.Dec.{lit≤}
 use lib.ListN.{length, drop, getD, length-append, length-drop}
 use lib.Seq.{getD-append-add, getD-drop}
+use lib.IntN.{pos}
 use Rattle.rules.specs.declared.Record.{Record}
+use Rattle.rules.specs.declared.IsoWeek.{IsoWeek}
+use Rattle.rules.specs.declared.Number.the-variants.{YearIso8601, YearIso8601Rem100, WeekNumberIso8601}
 use Rattle.rules.specs.declared.Piece.{Piece}
 use Rattle.rules.specs.Event.{Write, Event, write, check, textOf, Count, at, no, writeAt, one, tally, Outcome, done, refused, outcomeOf, run, reported, bufferAfter}
-use Rattle.rules.specs.Writing.{leadOf, bodyOf, specEvents, eventsOf}
+use Rattle.rules.specs.Decimal.{floorMod}
+use Rattle.rules.specs.Week.{daysIn, thursdayRule}
+use Rattle.rules.specs.Writing.{valueOf, leadOf, bodyOf, specEvents, eventsOf}
 use Rattle.rules.specs.Format.{Item, literal, echo, directive, cut, items, itemEvents, events, limitOf, formatEvents, formatted}
+use Rattle.rules.proofs.WeekLaws.{iso-exists}
 use Rattle.rules.proofs.EventLaws.{length-text, write-cases, tally-done, tally-room}
 
 -- ## Every check has a number of the table
@@ -131,3 +137,18 @@ beyond-kept text buffer i h =
     ∙ getD-append-add text (drop (length text) buffer) (i - length text) 0
     ∙ getD-drop (length text) buffer (i - length text) 0
     ∙ ap (λ (k : ℕ). getD buffer k 0) (sym e)
+
+-- ## ISO weeks
+
+-- "For a day that exists in its year, ISO year and week are those of ISO 8601"
+pub weeks-of-iso-8601 : (r : Record) → r .«day_of_year» ≤ daysIn (r .year) →
+    (valueOf YearIso8601 r ≡ thursdayRule (r .year) (r .«day_of_week») (r .«day_of_year») .year)
+    × (valueOf YearIso8601Rem100 r ≡ pos (floorMod (thursdayRule (r .year) (r .«day_of_week») (r .«day_of_year») .year) 100))
+    × (valueOf WeekNumberIso8601 r ≡ pos (thursdayRule (r .year) (r .«day_of_week») (r .«day_of_year») .week))
+unfolding valueOf
+weeks-of-iso-8601 r h =
+    let e = iso-exists (r .year) (r .«day_of_week») (r .«day_of_year») h in (
+      ap (λ (w : IsoWeek). w .year) e,
+      ap (λ (w : IsoWeek). pos (floorMod (w .year) 100)) e,
+      ap (λ (w : IsoWeek). pos (w .week)) e,
+    )

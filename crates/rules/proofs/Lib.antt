@@ -2,9 +2,13 @@ pub mod DecimalLaws
 pub mod Demands
 pub mod EdgesHold
 pub mod EventLaws
+pub mod FloorLaws
 pub mod Joining
 pub mod OneAnswer
+pub mod OriginalWeek
 pub mod Resume
 pub mod Tables
 pub mod Walk
+pub mod WeekLaws
 pub mod WritingLaws
+pub mod YearLaws
