@@ -122,7 +122,7 @@ fn missed_pad(at: usize, room: usize, limit: usize, count: usize) -> usize
 }
 
 pub fn pad(out: &mut [u8], at: usize, room: usize, limit: usize, byte: u8, count: usize) -> usize
-    requires { ⌜ Room (now out) room × (65536 ≤ limit) × (count < 4294967296) ⌝ }
+    requires { ⌜ Room (now out) room × (65536 ≤ limit) ⌝ }
     ensures { λ r. ⌜ Ran limit room (event.write (event.pad byte count) ∷ []) (now (out .entry)) at (now (out .exit)) r ⌝ }
 {
     if fits(at, count, out.len()) {

@@ -1,0 +1,2 @@
+// Ports the tables of mod.rs and the checks of assert.rs.
+pub mod calendar;

@@ -1,0 +1,3 @@
+pub mod FilledLaws
+pub mod SignLaws
+pub mod WriteLaws

@@ -1,0 +1,40 @@
+-- Writes from what other crates say: a pad below its limit, a text between what stood before it and after it, four stores.
+use mathlib.Core.Path.{_≡_, refl, sym, ap, _∙_}
+use mathlib.Core.List.{List, [], _∷_, _++_, append-assoc}
+use Prim.Native.Nat.{ℕ, _+_, _≤_}
+use native.Mathlib.Omega.{arith}
+use lib.ListN.{length, take, drop, set, replicate}
+use Rattle.rules.specs.Event.{put, pad, write, bytesOf, textOf, Count, at, no, writeAt, one, tally}
+use Rattle.text.specs.Overlay.{overlay}
+use Rattle.text.specs.Ran.{Ran}
+use Rattle.text.specs.Room.{Room}
+use Rattle.text.proofs.CountLaws.{pad-counts}
+use Rattle.text.proofs.OverlayLaws.{overlay-fits, overlay-two, overlay-append}
+use Rattle.text.proofs.RanLaws.{alike, placed}
+
+module _ (a b room : ℕ) (t : List ℕ) where
+  limits-alike : (c : Count) → tally a room (write (put t) ∷ []) c ≡ tally b room (write (put t) ∷ []) c
+  unfolding tally one writeAt
+  limits-alike (at n) = refl
+  limits-alike (no number n) = refl
+
+-- a write goes by no limit
+any-limit : {a b room : ℕ} {t l l′ : List ℕ} {n r : ℕ} → Ran a room (write (put t) ∷ []) l n l′ r → Ran b room (write (put t) ∷ []) l n l′ r
+any-limit {a} {b} {room} {t} w =
+    record { count = w .count ∙ limits-alike a b room t _; grows = w .grows; kept = w .kept; next = w .next; text = w .text }
+
+-- a pad that has its place in the list lies below the longest buffer
+pub pad-put : {limit room c count : ℕ} {l l′ : List ℕ} {n r : ℕ} → Ran 65536 room (write (pad c count) ∷ []) l n l′ r → n + count ≤ length l → Room l room → Ran limit room (write (put (replicate count c)) ∷ []) l n l′ r
+unfolding textOf bytesOf
+pad-put {room = room} {c} {count} {n = n} w h g =
+    any-limit (alike (λ k. sym (pad-counts 65536 room c count [] n (omega (arith, g .within, g .small)))) refl w)
+
+pub placed-between : {limit room : ℕ} {t l l′ : List ℕ} {n : ℕ} (count : ℕ) → length t ≡ count → l′ ≡ take n l ++ (t ++ drop (n + count) l) → n + count ≤ length l → Room l room → Ran limit room (write (put t) ∷ []) l n l′ (n + count)
+placed-between {t = t} {l} {l′} {n} count e b h g =
+    let f : n + count ≡ n + length t = omega arith in
+    placed (b ∙ ap (λ (k : ℕ). take n l ++ (t ++ drop k l)) f ∙ sym (append-assoc (take n l) t (drop (n + length t) l)) ∙ sym (overlay-fits n t l (omega arith))) f h g
+
+pub overlay-four : (n a b c d : ℕ) (l : List ℕ) → overlay n (a ∷ b ∷ c ∷ d ∷ []) l ≡ set (set (set (set l n a) (n + 1) b) (n + 2) c) (n + 3) d
+overlay-four n a b c d l =
+    let e : n + 2 + 1 ≡ n + 3 = omega arith in
+    overlay-append n (a ∷ b ∷ []) (c ∷ d ∷ []) l ∙ rw (overlay-two, overlay-two, e)

@@ -1,0 +1,102 @@
+-- Four stores lay the digits over the slice, or they are missed.
+use mathlib.Core.Path.{_≡_, refl, sym, ap, _∙_}
+use native.Mathlib.Omega.{arith}
+use lib.ListN.{length, length-set}
+use borrow.Author.Tests.{leb-true}
+use Rattle.rules.specs.Decimal.{places}
+use Rattle.rules.proofs.DecimalLaws.{length-places}
+use Rattle.text.proofs.RanLaws.{said, placed}
+use Rattle.text.proofs.PlaceLaws.{fits-yes, fits-no}
+use Rattle.printing.proofs.WriteLaws.{overlay-four}
+use Rattle.printing.proofs.FilledLaws.{four-places}
+use borrow.Author.Needs.{needs}
+use Rattle.printing.proofs.put_four.Statement.{statement}
+use Rattle.printing.proofs.put_four.Tie as tie
+
+fits-requires : tie.Need-fits-requires
+fits-requires c κs = search needs
+
+cast-front : tie.Need-cast-front
+cast-front c = search needs
+
+cast-back : tie.Need-cast-back
+cast-back c = search needs
+
+tens-requires : tie.Need-tens-requires
+tens-requires c κs = search needs
+
+slice-write-out : tie.Need-slice-write-out
+slice-write-out c = let k = sym (c .before .before .fits2 .ensures) ∙ c .before .if1 .taken in omega (arith, leb-true)
+
+ones-requires : tie.Need-ones-requires
+ones-requires c κs = search needs
+
+add-out : tie.Need-add-out
+add-out c = let k = sym (c .before .before .before .fits2 .ensures) ∙ c .before .before .if1 .taken in omega (arith, leb-true)
+
+slice-write-out-2 : tie.Need-slice-write-out-2
+slice-write-out-2 c = let k = sym (c .before .before .before .fits2 .ensures) ∙ c .before .before .if1 .taken in simp length-set (omega (arith, leb-true))
+
+tens-requires-2 : tie.Need-tens-requires-2
+tens-requires-2 c κs = search needs
+
+add-out-2 : tie.Need-add-out-2
+add-out-2 c = let k = sym (c .before .before .before .before .fits2 .ensures) ∙ c .before .before .before .if1 .taken in omega (arith, leb-true)
+
+slice-write-out-3 : tie.Need-slice-write-out-3
+slice-write-out-3 c = let k = sym (c .before .before .before .before .fits2 .ensures) ∙ c .before .before .before .if1 .taken in simp length-set (omega (arith, leb-true))
+
+ones-requires-2 : tie.Need-ones-requires-2
+ones-requires-2 c κs = search needs
+
+add-out-3 : tie.Need-add-out-3
+add-out-3 c = let k = sym (c .before .before .before .before .before .fits2 .ensures) ∙ c .before .before .before .before .if1 .taken in omega (arith, leb-true)
+
+slice-write-out-4 : tie.Need-slice-write-out-4
+slice-write-out-4 c = let k = sym (c .before .before .before .before .before .fits2 .ensures) ∙ c .before .before .before .before .if1 .taken in simp length-set (omega (arith, leb-true))
+
+add-result : tie.Need-add-result
+add-result c = let k = sym (c .before .before .before .before .before .fits2 .ensures) ∙ c .before .before .before .before .if1 .taken in omega (arith, leb-true)
+
+same-length : tie.Need-same-length
+same-length c = search needs
+
+returns : tie.Need-returns
+returns c =
+    let k = fits-yes _ _ (c .before .before .before .before .before .fits2 .ensures) (c .before .before .before .before .if1 .taken) in
+    let p = c .before .before .before .before .before .before .before .pre in
+    λ limit.
+    said (cc (four-places (c .before .before .before .before .before .before .before .args .v) (p .1), c .before .before .before .tens .ensures, c .before .before .ones .ensures, c .before .tens2 .ensures, c .ones2 .ensures))
+    (placed (sym (overlay-four _ _ _ _ _ _)) refl k (p .0))
+
+missed-requires : tie.Need-missed-requires
+missed-requires c κs = search needs
+
+returns-2 : tie.Need-returns-2
+returns-2 c =
+    let k = fits-no _ _ (c .before .before .fits2 .ensures) (c .before .if1 .left) in
+    λ limit. c .missed .ensures limit _ _ (length-places 4 (c .before .before .before .before .args .v)) (c .before .before .before .before .pre .0 .within) k
+
+pub put-four-spec : {M : Type 1} → statement M
+put-four-spec =
+    tie.close
+    (tie.spec
+    fits-requires
+    cast-front
+    cast-back
+    tens-requires
+    slice-write-out
+    ones-requires
+    add-out
+    slice-write-out-2
+    tens-requires-2
+    add-out-2
+    slice-write-out-3
+    ones-requires-2
+    add-out-3
+    slice-write-out-4
+    add-result
+    same-length
+    returns
+    missed-requires
+    returns-2)

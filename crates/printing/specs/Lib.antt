@@ -1,0 +1,2 @@
+pub mod FillWith
+pub mod Plain

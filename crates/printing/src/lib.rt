@@ -1,0 +1,201 @@
+// Ports what core::fmt writes for format/mod.rs (`{:0width$}` and `{: >width$}`), and `write_padding` of format/mod.rs.
+ghost use mathlib.Core.Path.{_≡_};
+ghost use mathlib.Core.List.{[], _∷_, _++_};
+ghost use Prim.Native.Nat.{ℕ, suc, _-_, _≤_, _<_};
+ghost use lib.IntN.{negsuc};
+ghost use lib.ListN.{length, replicate};
+ghost use Rattle.rules.specs.Event as event;
+ghost use Rattle.rules.specs.Decimal.{digits, digitCount, places, zeros, filled};
+ghost use Rattle.rules.specs.Writing.{widthOr, padByte, padTo, yearText};
+ghost use Rattle.text.specs.Ran.{Ran};
+ghost use Rattle.text.specs.Room.{Room};
+ghost use Rattle.printing.specs.FillWith.{fillWith};
+use rules::Padding;
+use rules::Piece;
+use rules::Width;
+
+pub fn saturating_sub(a: usize, b: usize) -> usize
+    ensures { λ r. ⌜ r ≡ a - b ⌝ }
+{
+    if b < a { a - b } else { 0 }
+}
+
+pub fn width_or(width: Width, default: usize) -> usize
+    ensures { λ r. ⌜ r ≡ widthOr width default ⌝ }
+{
+    match width {
+        Width::Unset => default,
+        Width::Of(given) => given,
+    }
+}
+
+pub fn pad_byte(padding: Padding) -> u8
+    ensures { λ r. ⌜ r ≡ padByte padding ⌝ }
+{
+    match padding {
+        Padding::Left => b' ',
+        Padding::Spaces => b' ',
+        Padding::Zeros => b'0',
+    }
+}
+
+// One byte, so many times. A run that has its place in the slice is a pad that no limit refuses.
+pub fn put_run(out: &mut [u8], at: usize, room: usize, byte: u8, count: usize) -> usize
+    requires { ⌜ Room (now out) room ⌝ }
+    ensures { λ r. ⌜ ((limit : ℕ) → Ran limit room (event.write (event.put (replicate count byte)) ∷ []) (now (out .entry)) at (now (out .exit)) r) ⌝ }
+{
+    if text::fits(at, count, out.len()) {
+        return text::pad(out, at, room, 65536, byte, count);
+    }
+    text::missed(at, count, room)
+}
+
+// The digits of v behind as many bytes as the width asks for.
+fn put_digits(out: &mut [u8], at: usize, room: usize, v: u64, width: usize, byte: u8) -> usize
+    requires { ⌜ Room (now out) room ⌝ }
+    ensures { λ r. ⌜ ((limit : ℕ) → Ran limit room (event.write (event.put (replicate (width - digitCount v) byte ++ digits v)) ∷ []) (now (out .entry)) at (now (out .exit)) r) ⌝ }
+{
+    let count = numbers::digit_count(v);
+    if width <= count {
+        return text::put_places(out, at, room, count, v);
+    }
+    let next = put_run(out, at, room, byte, width - count);
+    text::put_places(out, next, room, count, v)
+}
+
+// The same with zeros. A number that has no more digits than the width is its last places.
+fn put_zeros(out: &mut [u8], at: usize, room: usize, v: u64, width: usize) -> usize
+    requires { ⌜ Room (now out) room ⌝ }
+    ensures { λ r. ⌜ ((limit : ℕ) → Ran limit room (event.write (event.put (replicate (width - digitCount v) 48 ++ digits v)) ∷ []) (now (out .entry)) at (now (out .exit)) r) ⌝ }
+{
+    if width == 0 || 9 < width {
+        return put_digits(out, at, room, v, width, b'0');
+    }
+    if v < numbers::power(width) as u64 {
+        return text::put_places(out, at, room, width, v);
+    }
+    put_digits(out, at, room, v, width, b'0')
+}
+
+// The number -size. Zeros go after the sign, spaces before it.
+fn put_negative(
+    out: &mut [u8],
+    at: usize,
+    room: usize,
+    size: u64,
+    width: usize,
+    zeros: bool,
+) -> usize
+    requires { ⌜ Room (now out) room ⌝ }
+    ensures { λ r. ⌜ ((limit n : ℕ) → size ≡ suc n → Ran limit room (event.write (event.put (filled (fillWith zeros) width (negsuc n))) ∷ []) (now (out .entry)) at (now (out .exit)) r) ⌝ }
+{
+    if zeros {
+        let next = text::put(out, at, room, b"-");
+        return put_zeros(out, next, room, size, saturating_sub(width, 1));
+    }
+    let count = numbers::digit_count(size);
+    let sign = put_run(out, at, room, b' ', saturating_sub(width, count + 1));
+    let first = text::put(out, sign, room, b"-");
+    text::put_places(out, first, room, count, size)
+}
+
+pub fn put_decimal(
+    out: &mut [u8],
+    at: usize,
+    room: usize,
+    v: i64,
+    width: usize,
+    zeros: bool,
+) -> usize
+    requires { ⌜ Room (now out) room × (width ≤ 65535) ⌝ }
+    ensures { λ r. ⌜ ((limit : ℕ) → Ran limit room (event.write (event.put (filled (fillWith zeros) width v)) ∷ []) (now (out .entry)) at (now (out .exit)) r) ⌝ }
+{
+    let size = numbers::unsigned_abs64(v);
+    if v < 0 {
+        return put_negative(out, at, room, size, width, zeros);
+    }
+    if zeros {
+        return put_zeros(out, at, room, size, width);
+    }
+    put_digits(out, at, room, size, width, b' ')
+}
+
+// Four digits, with one test of the room.
+fn put_four(out: &mut [u8], at: usize, room: usize, v: u32) -> usize
+    requires { ⌜ Room (now out) room × (v < 10000) ⌝ }
+    ensures { λ r. ⌜ ((limit : ℕ) → Ran limit room (event.write (event.put (places 4 v)) ∷ []) (now (out .entry)) at (now (out .exit)) r) ⌝ }
+{
+    if text::fits(at, 4, out.len()) {
+        let front = (v / 100) as u8;
+        let back = (v % 100) as u8;
+        out[at] = numbers::tens(front);
+        out[at + 1] = numbers::ones(front);
+        out[at + 2] = numbers::tens(back);
+        out[at + 3] = numbers::ones(back);
+        return at + 4;
+    }
+    text::missed(at, 4, room)
+}
+
+pub fn put_year(out: &mut [u8], at: usize, room: usize, year: i32) -> usize
+    requires { ⌜ Room (now out) room ⌝ }
+    ensures { λ r. ⌜ ((limit : ℕ) → Ran limit room (event.write (event.put (yearText year)) ∷ []) (now (out .entry)) at (now (out .exit)) r) ⌝ }
+{
+    let size = numbers::unsigned_abs(year);
+    if year < 0 {
+        return put_negative(out, at, room, size as u64, 5, true);
+    }
+    if size < 10000 {
+        return put_four(out, at, room, size);
+    }
+    put_digits(out, at, room, size as u64, 4, b'0')
+}
+
+// How many bytes a year takes that is written with zeros to at least so many.
+pub fn year_length(year: i32, least: usize) -> usize
+    requires { ⌜ least ≤ 65535 ⌝ }
+    ensures { λ r. ⌜ r ≡ length (filled zeros least year) ⌝ }
+{
+    let length = numbers::text_length(year as i64);
+    if length < least { least } else { length }
+}
+
+// A pad from a text of `length` bytes to the width.
+pub fn put_padding(
+    out: &mut [u8],
+    at: usize,
+    room: usize,
+    limit: usize,
+    byte: u8,
+    width: usize,
+    length: usize,
+) -> usize
+    requires { ⌜ Room (now out) room × (65536 ≤ limit) ⌝ }
+    ensures { λ r. ⌜ Ran limit room (event.write (event.pad byte (width - length)) ∷ []) (now (out .entry)) at (now (out .exit)) r ⌝ }
+{
+    text::pad(out, at, room, limit, byte, saturating_sub(width, length))
+}
+
+pub fn write_padding(
+    out: &mut [u8],
+    at: usize,
+    room: usize,
+    limit: usize,
+    piece: Piece,
+    length: usize,
+) -> usize
+    requires { ⌜ Room (now out) room × (65536 ≤ limit) ⌝ }
+    ensures { λ r. ⌜ Ran limit room (event.write (padTo piece length) ∷ []) (now (out .entry)) at (now (out .exit)) r ⌝ }
+{
+    let width = piece.width;
+    let padding = piece.padding;
+    put_padding(
+        out,
+        at,
+        room,
+        limit,
+        pad_byte(padding),
+        width_or(width, 0),
+        length,
+    )
+}
