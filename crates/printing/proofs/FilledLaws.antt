@@ -1,11 +1,11 @@
 -- A filled number as the texts that are written one after the other.
 use mathlib.Core.Path.{_≡_, refl, sym, ap, ap₂, _∙_}
 use mathlib.Core.Bool.{Bool, true, false}
-use mathlib.Core.List.{List, [], _∷_, _++_, append-assoc}
+use mathlib.Core.List.{List, [], _∷_, _++_}
 use Prim.Native.Nat.{ℕ, suc, _+_, _-_, _/_, _%_, _^_, _≤_, _<_}
 use native.Mathlib.Omega.{arith}
 use lib.IntN.{ℤ, pos, negsuc}
-use lib.ListN.{replicate}
+use lib.ListN.{length, replicate}
 use Rattle.rules.specs.Decimal.{digits, digitCount, places, decimalText, zeros, spaces, fillByte, filled}
 use Rattle.rules.proofs.DecimalLaws.{digits-places, filled-zeros-places}
 use Rattle.printing.specs.FillWith.{fillWith}
@@ -44,12 +44,10 @@ module _ (w n size : ℕ) (s : size ≡ suc n) where
       let f : k - digitCount (suc n) ≡ w - suc (digitCount (suc n)) = omega arith in
       rw (s, f)
 
-  -- spaces before it
-  pub spaces-sign : (count k : ℕ) → count ≡ digitCount size → k ≡ w - (count + 1) → (replicate k 32 ++ (45 ∷ [])) ++ places count size ≡ filled spaces w (negsuc n)
-  unfolding filled decimalText
-  spaces-sign count k d e =
-      let f : k ≡ w - suc (digitCount size) = omega arith in
-      rw (append-assoc, places-digits w size 32 count d, f, s)
+-- a text behind spaces
+pub spaces-behind : (w : ℕ) (z : ℤ) {k : ℕ} {t : List ℕ} → k ≡ w - length (decimalText z) → t ≡ decimalText z → replicate k 32 ++ t ≡ filled spaces w z
+unfolding filled
+spaces-behind w z e f = ap₂ (λ (k : ℕ) (t : List ℕ). replicate k 32 ++ t) e f
 
 -- the fill by the flag that was tested
 pub as-asked : (w : ℕ) {z was : Bool} {v x : ℤ} → z ≡ was → v ≡ x → filled (fillWith was) w x ≡ filled (fillWith z) w v

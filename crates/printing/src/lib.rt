@@ -5,7 +5,7 @@ ghost use Prim.Native.Nat.{ℕ, suc, _-_, _≤_, _<_};
 ghost use lib.IntN.{negsuc};
 ghost use lib.ListN.{length, replicate};
 ghost use Rattle.rules.specs.Event as event;
-ghost use Rattle.rules.specs.Decimal.{digits, digitCount, places, zeros, filled};
+ghost use Rattle.rules.specs.Decimal.{digits, digitCount, places, zeros, spaces, filled};
 ghost use Rattle.rules.specs.Writing.{widthOr, padByte, padTo, yearText};
 ghost use Rattle.text.specs.Ran.{Ran};
 ghost use Rattle.text.specs.Room.{Room};
@@ -50,53 +50,52 @@ pub fn put_run(out: &mut [u8], at: usize, room: usize, byte: u8, count: usize) -
     text::missed(at, count, room)
 }
 
-// The digits of v behind as many bytes as the width asks for.
-fn put_digits(out: &mut [u8], at: usize, room: usize, v: u64, width: usize, byte: u8) -> usize
+// The digits of v behind as many zeros as the width asks for.
+fn put_digits(out: &mut [u8], at: usize, room: usize, v: u64, width: usize) -> usize
     requires { ⌜ Room (now out) room ⌝ }
-    ensures { λ r. ⌜ ((limit : ℕ) → Ran limit room (event.write (event.put (replicate (width - digitCount v) byte ++ digits v)) ∷ []) (now (out .entry)) at (now (out .exit)) r) ⌝ }
+    ensures { λ r. ⌜ ((limit : ℕ) → Ran limit room (event.write (event.put (replicate (width - digitCount v) 48 ++ digits v)) ∷ []) (now (out .entry)) at (now (out .exit)) r) ⌝ }
 {
     let count = numbers::digit_count(v);
     if width <= count {
         return text::put_places(out, at, room, count, v);
     }
-    let next = put_run(out, at, room, byte, width - count);
+    let next = put_run(out, at, room, b'0', width - count);
     text::put_places(out, next, room, count, v)
 }
 
-// The same with zeros. A number that has no more digits than the width is its last places.
+// The same. A number that has no more digits than the width is its last places.
 fn put_zeros(out: &mut [u8], at: usize, room: usize, v: u64, width: usize) -> usize
     requires { ⌜ Room (now out) room ⌝ }
     ensures { λ r. ⌜ ((limit : ℕ) → Ran limit room (event.write (event.put (replicate (width - digitCount v) 48 ++ digits v)) ∷ []) (now (out .entry)) at (now (out .exit)) r) ⌝ }
 {
     if width == 0 || 9 < width {
-        return put_digits(out, at, room, v, width, b'0');
+        return put_digits(out, at, room, v, width);
     }
     if v < numbers::power(width) as u64 {
         return text::put_places(out, at, room, width, v);
     }
-    put_digits(out, at, room, v, width, b'0')
+    put_digits(out, at, room, v, width)
 }
 
-// The number -size. Zeros go after the sign, spaces before it.
-fn put_negative(
-    out: &mut [u8],
-    at: usize,
-    room: usize,
-    size: u64,
-    width: usize,
-    zeros: bool,
-) -> usize
+// The number -size: zeros go after the sign.
+fn put_negative(out: &mut [u8], at: usize, room: usize, size: u64, width: usize) -> usize
     requires { ⌜ Room (now out) room ⌝ }
-    ensures { λ r. ⌜ ((limit n : ℕ) → size ≡ suc n → Ran limit room (event.write (event.put (filled (fillWith zeros) width (negsuc n))) ∷ []) (now (out .entry)) at (now (out .exit)) r) ⌝ }
+    ensures { λ r. ⌜ ((limit n : ℕ) → size ≡ suc n → Ran limit room (event.write (event.put (filled zeros width (negsuc n))) ∷ []) (now (out .entry)) at (now (out .exit)) r) ⌝ }
 {
-    if zeros {
-        let next = text::put(out, at, room, b"-");
-        return put_zeros(out, next, room, size, saturating_sub(width, 1));
-    }
-    let count = numbers::digit_count(size);
-    let sign = put_run(out, at, room, b' ', saturating_sub(width, count + 1));
-    let first = text::put(out, sign, room, b"-");
-    text::put_places(out, first, room, count, size)
+    let next = text::put(out, at, room, b"-");
+    put_zeros(out, next, room, size, saturating_sub(width, 1))
+}
+
+// The decimal text of v behind spaces.
+fn put_spaced(out: &mut [u8], at: usize, room: usize, v: i64, width: usize) -> usize
+    requires { ⌜ Room (now out) room ⌝ }
+    ensures { λ r. ⌜ ((limit : ℕ) → Ran limit room (event.write (event.put (filled spaces width v)) ∷ []) (now (out .entry)) at (now (out .exit)) r) ⌝ }
+{
+    let decimal = numbers::decimal_text(v);
+    let count = decimal.count;
+    let bytes = decimal.bytes;
+    let next = put_run(out, at, room, b' ', saturating_sub(width, count));
+    text::put(out, next, room, &bytes[..count])
 }
 
 pub fn put_decimal(
@@ -110,14 +109,14 @@ pub fn put_decimal(
     requires { ⌜ Room (now out) room × (width ≤ 65535) ⌝ }
     ensures { λ r. ⌜ ((limit : ℕ) → Ran limit room (event.write (event.put (filled (fillWith zeros) width v)) ∷ []) (now (out .entry)) at (now (out .exit)) r) ⌝ }
 {
+    if !zeros {
+        return put_spaced(out, at, room, v, width);
+    }
     let size = numbers::unsigned_abs64(v);
     if v < 0 {
-        return put_negative(out, at, room, size, width, zeros);
+        return put_negative(out, at, room, size, width);
     }
-    if zeros {
-        return put_zeros(out, at, room, size, width);
-    }
-    put_digits(out, at, room, size, width, b' ')
+    put_zeros(out, at, room, size, width)
 }
 
 // Four digits, with one test of the room.
@@ -143,12 +142,12 @@ pub fn put_year(out: &mut [u8], at: usize, room: usize, year: i32) -> usize
 {
     let size = numbers::unsigned_abs(year);
     if year < 0 {
-        return put_negative(out, at, room, size as u64, 5, true);
+        return put_negative(out, at, room, size as u64, 5);
     }
     if size < 10000 {
         return put_four(out, at, room, size);
     }
-    put_digits(out, at, room, size as u64, 4, b'0')
+    put_digits(out, at, room, size as u64, 4)
 }
 
 // How many bytes a year takes that is written with zeros to at least so many.

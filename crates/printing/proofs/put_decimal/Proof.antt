@@ -1,7 +1,9 @@
--- A negative number, or the digits behind zeros or spaces.
-use mathlib.Core.Path.{refl, _∙_}
-use mathlib.Core.Bool.{true, false}
+-- The text behind spaces, a negative number, or the digits behind zeros.
+use mathlib.Core.Path.{sym, _∙_}
+use mathlib.Core.Bool.{true}
 use mir.Syntax.{w64}
+use mir.ValLaws.{toZ-ofZ}
+use borrow.Author.Tests.{not-true, not-false}
 use Rattle.text.proofs.RanLaws.{said}
 use Rattle.printing.proofs.FilledLaws.{filled-natural, as-asked}
 use Rattle.printing.proofs.SignLaws.{negative, natural}
@@ -9,23 +11,22 @@ use borrow.Author.Needs.{needs}
 use Rattle.printing.proofs.put_decimal.Statement.{statement}
 use Rattle.printing.proofs.put_decimal.Tie as tie
 
-unsigned-abs64-requires : tie.Need-unsigned-abs64-requires
-unsigned-abs64-requires c κs = search needs
-
-put-negative-requires : tie.Need-put-negative-requires
-put-negative-requires c κs = search needs
+put-spaced-requires : tie.Need-put-spaced-requires
+put-spaced-requires c κs = search needs
 
 same-length : tie.Need-same-length
 same-length c = search needs
 
 returns : tie.Need-returns
 returns c =
-    let a = c .before .before .before .before .before .before .before .args in
-    let s = negative w64 (a .v) (c .before .before .before .before .before .before .before .fits .v) _ (c .before .before .before .before .before .unsigned-abs64 .ensures) (c .before .before .before .before .if1 .taken) in
-    λ limit. said (as-asked (a .width) {z = a .zeros} refl (s .1)) (c .before .before .put-negative .ensures limit _ (s .0))
+    let a = c .before .before .before .before .before .before .args in
+    λ limit. said (as-asked (a .width) (not-true (a .zeros) (c .before .before .before .before .if1 .taken)) (sym (toZ-ofZ w64 (a .v) (c .before .before .before .before .before .before .fits .v)))) (c .before .before .put-spaced .ensures limit)
 
-put-zeros-requires : tie.Need-put-zeros-requires
-put-zeros-requires c κs = search needs
+unsigned-abs64-requires : tie.Need-unsigned-abs64-requires
+unsigned-abs64-requires c κs = search needs
+
+put-negative-requires : tie.Need-put-negative-requires
+put-negative-requires c κs = search needs
 
 same-length-2 : tie.Need-same-length-2
 same-length-2 c = search needs
@@ -33,11 +34,11 @@ same-length-2 c = search needs
 returns-2 : tie.Need-returns-2
 returns-2 c =
     let a = c .before .before .before .before .before .before .before .before .args in
-    let s = natural w64 (a .v) (c .before .before .before .before .before .before .before .before .fits .v) _ (c .before .before .before .before .before .before .unsigned-abs64 .ensures) (c .before .before .before .before .before .if1 .left) in
-    λ limit. said (filled-natural (a .width) _ true ∙ as-asked (a .width) (c .before .before .before .before .if2 .taken) s) (c .before .before .put-zeros .ensures limit)
+    let s = negative w64 (a .v) (c .before .before .before .before .before .before .before .before .fits .v) _ (c .before .before .before .before .before .unsigned-abs64 .ensures) (c .before .before .before .before .if2 .taken) in
+    λ limit. said (as-asked (a .width) (not-false (a .zeros) (c .before .before .before .before .before .before .if1 .left)) (s .1)) (c .before .before .put-negative .ensures limit _ (s .0))
 
-put-digits-requires : tie.Need-put-digits-requires
-put-digits-requires c κs = search needs
+put-zeros-requires : tie.Need-put-zeros-requires
+put-zeros-requires c κs = search needs
 
 same-length-3 : tie.Need-same-length-3
 same-length-3 c = search needs
@@ -45,20 +46,20 @@ same-length-3 c = search needs
 returns-3 : tie.Need-returns-3
 returns-3 c =
     let a = c .before .before .before .before .before .before .before .before .args in
-    let s = natural w64 (a .v) (c .before .before .before .before .before .before .before .before .fits .v) _ (c .before .before .before .before .before .before .unsigned-abs64 .ensures) (c .before .before .before .before .before .if1 .left) in
-    λ limit. said (filled-natural (a .width) _ false ∙ as-asked (a .width) (c .before .before .before .before .if2 .left) s) (c .before .before .put-digits .ensures limit)
+    let s = natural w64 (a .v) (c .before .before .before .before .before .before .before .before .fits .v) _ (c .before .before .before .before .before .unsigned-abs64 .ensures) (c .before .before .before .before .if2 .left) in
+    λ limit. said (filled-natural (a .width) _ true ∙ as-asked (a .width) (not-false (a .zeros) (c .before .before .before .before .before .before .if1 .left)) s) (c .before .before .put-zeros .ensures limit)
 
 pub put-decimal-spec : {M : Type 1} → statement M
 put-decimal-spec =
     tie.close
     (tie.spec
-    unsigned-abs64-requires
-    put-negative-requires
+    put-spaced-requires
     same-length
     returns
-    put-zeros-requires
+    unsigned-abs64-requires
+    put-negative-requires
     same-length-2
     returns-2
-    put-digits-requires
+    put-zeros-requires
     same-length-3
     returns-3)

@@ -1,4 +1,5 @@
 -- The digits are as many places; what is in front is a run, or nothing.
+use Prim.Native.Nat.{_≤_}
 use native.Mathlib.Omega.{arith}
 use Rattle.numbers.proofs.CountLaws.{count-64}
 use Rattle.text.proofs.RanLaws.{_then_, joined, said, room-kept}
@@ -10,16 +11,20 @@ use Rattle.printing.proofs.put_digits.Tie as tie
 digit-count-requires : tie.Need-digit-count-requires
 digit-count-requires c κs = search needs
 
+count-small : (c : tie.After-digit-count) → c .digit-count .result ≤ 20
+count-small c = omega (arith, c .digit-count .ensures, count-64 (c .before .before .args .v) (omega arith))
+
 put-places-requires : tie.Need-put-places-requires
-put-places-requires c κs = (c .before .before .before .before .pre, omega (arith, c .before .before .digit-count .ensures, count-64 (c .before .before .before .before .args .v) (omega arith)))
+put-places-requires c κs = (c .before .before .before .before .pre, omega (arith, count-small (c .before .before)))
 
 same-length : tie.Need-same-length
 same-length c = search needs
 
 returns : tie.Need-returns
 returns c =
-    let a = c .before .before .before .before .before .before .before .args in
-    λ limit. said (digits-alone (a .width) (a .v) (a .byte) _ (c .before .before .before .before .before .digit-count .ensures) (c .before .before .before .before .if1 .taken)) (c .before .before .put-places .ensures limit)
+    let c5 = c .before .before .before .before .before in
+    let a = c5 .before .before .args in
+    λ limit. said (digits-alone (a .width) (a .v) 48 _ (c5 .digit-count .ensures) (c .before .before .before .before .if1 .taken)) (c .before .before .put-places .ensures limit)
 
 sub-put-run : tie.Need-sub-put-run
 sub-put-run c = search needs
@@ -28,15 +33,19 @@ put-run-requires : tie.Need-put-run-requires
 put-run-requires c κs = search needs
 
 put-places-requires-2 : tie.Need-put-places-requires-2
-put-places-requires-2 c κs = (room-kept (c .before .before .before .put-run .ensures 0) (c .before .before .before .before .before .before .before .before .pre), omega (arith, c .before .before .before .before .before .before .digit-count .ensures, count-64 (c .before .before .before .before .before .before .before .before .args .v) (omega arith)))
+put-places-requires-2 c κs =
+    let c6 = c .before .before .before .before .before .before in
+    (room-kept (c .before .before .before .put-run .ensures 0) (c6 .before .before .pre), omega (arith, count-small c6))
 
 same-length-2 : tie.Need-same-length-2
 same-length-2 c = search needs
 
 returns-2 : tie.Need-returns-2
 returns-2 c =
-    let a = c .before .before .before .before .before .before .before .before .before .before .before .args in
-    λ limit. said (digits-behind (a .width) (a .v) (a .byte) _ (c .before .before .before .before .before .before .before .before .before .digit-count .ensures)) (joined (c .before .before .before .before .before .before .put-run .ensures limit then c .before .before .put-places2 .ensures limit))
+    let c6 = c .before .before .before .before .before .before in
+    let c9 = c6 .before .before .before in
+    let a = c9 .before .before .args in
+    λ limit. said (digits-behind (a .width) (a .v) 48 _ (c9 .digit-count .ensures)) (joined (c6 .put-run .ensures limit then c .before .before .put-places2 .ensures limit))
 
 pub put-digits-spec : {M : Type 1} → statement M
 put-digits-spec =

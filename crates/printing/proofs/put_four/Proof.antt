@@ -1,9 +1,8 @@
 -- Four stores lay the digits over the slice, or they are missed.
-use mathlib.Core.Path.{_≡_, refl, sym, ap, _∙_}
+use mathlib.Core.Path.{refl, sym}
+use Prim.Native.Nat.{_+_, _≤_}
 use native.Mathlib.Omega.{arith}
 use lib.ListN.{length, length-set}
-use borrow.Author.Tests.{leb-true}
-use Rattle.rules.specs.Decimal.{places}
 use Rattle.rules.proofs.DecimalLaws.{length-places}
 use Rattle.text.proofs.RanLaws.{said, placed}
 use Rattle.text.proofs.PlaceLaws.{fits-yes, fits-no}
@@ -25,49 +24,51 @@ cast-back c = search needs
 tens-requires : tie.Need-tens-requires
 tens-requires c κs = search needs
 
+four-fit : (c : tie.Then1) → c .before .before .before .args .at + 4 ≤ length (c .before .before .before .args .out .now)
+four-fit c = fits-yes _ _ (c .before .fits2 .ensures) (c .if1 .taken)
+
 slice-write-out : tie.Need-slice-write-out
-slice-write-out c = let k = sym (c .before .before .fits2 .ensures) ∙ c .before .if1 .taken in omega (arith, leb-true)
+slice-write-out c = omega (arith, four-fit (c .before))
 
 ones-requires : tie.Need-ones-requires
 ones-requires c κs = search needs
 
 add-out : tie.Need-add-out
-add-out c = let k = sym (c .before .before .before .fits2 .ensures) ∙ c .before .before .if1 .taken in omega (arith, leb-true)
+add-out c = omega (arith, four-fit (c .before .before))
 
 slice-write-out-2 : tie.Need-slice-write-out-2
-slice-write-out-2 c = let k = sym (c .before .before .before .fits2 .ensures) ∙ c .before .before .if1 .taken in simp length-set (omega (arith, leb-true))
+slice-write-out-2 c = simp length-set (omega (arith, four-fit (c .before .before)))
 
 tens-requires-2 : tie.Need-tens-requires-2
 tens-requires-2 c κs = search needs
 
 add-out-2 : tie.Need-add-out-2
-add-out-2 c = let k = sym (c .before .before .before .before .fits2 .ensures) ∙ c .before .before .before .if1 .taken in omega (arith, leb-true)
+add-out-2 c = omega (arith, four-fit (c .before .before .before))
 
 slice-write-out-3 : tie.Need-slice-write-out-3
-slice-write-out-3 c = let k = sym (c .before .before .before .before .fits2 .ensures) ∙ c .before .before .before .if1 .taken in simp length-set (omega (arith, leb-true))
+slice-write-out-3 c = simp length-set (omega (arith, four-fit (c .before .before .before)))
 
 ones-requires-2 : tie.Need-ones-requires-2
 ones-requires-2 c κs = search needs
 
 add-out-3 : tie.Need-add-out-3
-add-out-3 c = let k = sym (c .before .before .before .before .before .fits2 .ensures) ∙ c .before .before .before .before .if1 .taken in omega (arith, leb-true)
+add-out-3 c = omega (arith, four-fit (c .before .before .before .before))
 
 slice-write-out-4 : tie.Need-slice-write-out-4
-slice-write-out-4 c = let k = sym (c .before .before .before .before .before .fits2 .ensures) ∙ c .before .before .before .before .if1 .taken in simp length-set (omega (arith, leb-true))
+slice-write-out-4 c = simp length-set (omega (arith, four-fit (c .before .before .before .before)))
 
 add-result : tie.Need-add-result
-add-result c = let k = sym (c .before .before .before .before .before .fits2 .ensures) ∙ c .before .before .before .before .if1 .taken in omega (arith, leb-true)
+add-result c = omega (arith, four-fit (c .before .before .before .before))
 
 same-length : tie.Need-same-length
 same-length c = search needs
 
 returns : tie.Need-returns
 returns c =
-    let k = fits-yes _ _ (c .before .before .before .before .before .fits2 .ensures) (c .before .before .before .before .if1 .taken) in
     let p = c .before .before .before .before .before .before .before .pre in
     λ limit.
     said (cc (four-places (c .before .before .before .before .before .before .before .args .v) (p .1), c .before .before .before .tens .ensures, c .before .before .ones .ensures, c .before .tens2 .ensures, c .ones2 .ensures))
-    (placed (sym (overlay-four _ _ _ _ _ _)) refl k (p .0))
+    (placed (sym (overlay-four _ _ _ _ _ _)) refl (four-fit (c .before .before .before .before)) (p .0))
 
 missed-requires : tie.Need-missed-requires
 missed-requires c κs = search needs

@@ -1,5 +1,4 @@
 -- The count is the difference.
-use mathlib.Core.Path.{_≡_}
 use borrow.Author.Needs.{needs}
 use Rattle.printing.proofs.put_padding.Statement.{statement}
 use Rattle.printing.proofs.put_padding.Tie as tie

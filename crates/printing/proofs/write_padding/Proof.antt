@@ -1,5 +1,4 @@
 -- The byte and the width are those of the piece.
-use mathlib.Core.Path.{_≡_}
 use borrow.Author.Needs.{needs}
 use Rattle.printing.proofs.write_padding.Statement.{statement}
 use Rattle.printing.proofs.write_padding.Tie as tie

@@ -1,0 +1,59 @@
+-- Spaces, and the front of the printer's array.
+use mathlib.Core.Path.{_≡_, sym, ap, _∙_}
+use Prim.Native.Nat.{ℕ, _-_}
+use lib.ListN.{length}
+use lib.IntN.{ℤ}
+use lib.Seq.{length-take-le}
+use mir.Syntax.{w64}
+use mir.ValLaws.{toZ-ofZ}
+use Rattle.rules.specs.Decimal.{decimalText}
+use Rattle.numbers.proofs.TextLaws.{text-within, text-front}
+use Rattle.text.proofs.RanLaws.{_then_, joined, said}
+use Rattle.printing.proofs.FilledLaws.{spaces-behind}
+use borrow.Author.Needs.{needs}
+use Rattle.printing.proofs.put_spaced.Statement.{statement}
+use Rattle.printing.proofs.put_spaced.Tie as tie
+
+decimal-text-requires : tie.Need-decimal-text-requires
+decimal-text-requires c κs = search needs
+
+saturating-sub-requires : tie.Need-saturating-sub-requires
+saturating-sub-requires c κs = search needs
+
+put-run-requires : tie.Need-put-run-requires
+put-run-requires c κs = search needs
+
+array-share-prefix-bytes : tie.Need-array-share-prefix-bytes
+array-share-prefix-bytes c = let d = c .before .before .before .before .before .before .before .decimal-text .ensures in text-within _ _ _ _ (d .0) (d .1)
+
+slice-aggregate-put : tie.Need-slice-aggregate-put
+slice-aggregate-put c = let d = c .before .before .before .before .before .before .before .before .decimal-text .ensures in sym (length-take-le _ _ (text-within _ _ _ _ (d .0) (d .1)))
+
+put-requires : tie.Need-put-requires
+put-requires c κs = search needs
+
+same-length : tie.Need-same-length
+same-length c = search needs
+
+returns : tie.Need-returns
+returns c =
+    let a = c .before .before .before .before .before .before .before .before .before .before .before .before .before .args in
+    let d = c .before .before .before .before .before .before .before .before .before .before .before .decimal-text .ensures in
+    let same = ap decimalText (toZ-ofZ w64 (a .v) (c .before .before .before .before .before .before .before .before .before .before .before .before .before .fits .v)) in
+    λ limit.
+    said
+    (spaces-behind (a .width) (a .v) (c .before .before .before .before .before .before .before .before .saturating-sub .ensures ∙ ap (λ (n : ℕ). a .width - n) (d .1 ∙ ap length same)) (text-front _ _ _ _ (d .0) (d .1) ∙ same))
+    (joined (c .before .before .before .before .before .before .before .put-run .ensures limit then c .before .before .put .ensures limit))
+
+pub put-spaced-spec : {M : Type 1} → statement M
+put-spaced-spec =
+    tie.close
+    (tie.spec
+    decimal-text-requires
+    saturating-sub-requires
+    put-run-requires
+    array-share-prefix-bytes
+    slice-aggregate-put
+    put-requires
+    same-length
+    returns)
