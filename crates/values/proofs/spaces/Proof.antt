@@ -1,0 +1,18 @@
+-- `spaces`: a byte as an i64 is the same number.
+use mathlib.Core.Path.{refl}
+use native.Mathlib.Omega.{arith}
+use mir.Syntax.{w64}
+use mir.ValLaws.{toZ-pos}
+use borrow.Author.Needs.{needs}
+use Rattle.values.proofs.Laws.{renumbered}
+use Rattle.values.proofs.spaces.Statement.{statement}
+use Rattle.values.proofs.spaces.Tie as tie
+
+cast-t3 : tie.Need-cast-t3
+cast-t3 c = search needs
+
+returns : tie.Need-returns
+returns c = renumbered (toZ-pos w64 (c .args .number) (omega arith)) (record { is = refl; narrow = omega arith })
+
+pub spaces-spec : {M : Type 1} → statement M
+spaces-spec = tie.close (tie.spec cast-t3 returns)
