@@ -1,18 +1,23 @@
 -- The rules of the tables of names and of their packed words, in either case: one computed test and one law each.
-use mathlib.Core.Path.{_≡_, sym, ap}
+use mathlib.Core.Path.{_≡_, ap}
 use mathlib.Core.Bool.{Bool, true, false, _&&_}
 use mathlib.Core.List.{List, [], flatten}
 use Prim.Native.Nat.{ℕ, _+_, _-_, _≤_, _<_}
 use native.Mathlib.Omega.{arith}
 use lib.Dec.{T, leb, leb→le}
 use lib.ListN.{length, getD, take, drop, length-take, length-drop}
-use Rattle.rules.specs.Name.{dayNames, monthNames, dayName, monthName, abbreviated, upper, inCase}
+use Rattle.rules.specs.Name.{dayNames, monthNames, dayName, monthName, abbreviated, upper, raised, inCase}
 use Rattle.names.specs.Calendar.{caseBy, startOf, packed, unpacked, casedWord}
 use Rattle.names.proofs.TestLaws.{and-left, and-right, eqs, eqs→eq, upto, upto-at}
 
--- a text in a case that is known
-pub cased : (text : List ℕ) {u was : Bool} → u ≡ was → inCase (caseBy was) text ≡ inCase (caseBy u) text
-cased text e = sym (ap (λ (u : Bool). inCase (caseBy u) text) e)
+-- the table of the case that is asked for
+module _ (names : List (List ℕ)) {u : Bool} {table : List ℕ} where
+  pub raised-table : u ≡ true → table ≡ inCase raised (flatten names) → table ≡ inCase (caseBy u) (flatten names)
+  raised-table e t = rw e t
+
+  pub plain-table : u ≡ false → table ≡ flatten names → table ≡ inCase (caseBy u) (flatten names)
+  unfolding inCase
+  plain-table e t = rw e t
 
 -- ## Tables: each name stands between its place and the next
 

@@ -1,3 +1,4 @@
-pub mod TestLaws
-pub mod MatchLaws
 pub mod CalendarLaws
+pub mod DirectiveLaws
+pub mod MatchLaws
+pub mod TestLaws

@@ -6,7 +6,7 @@ ghost use Prim.Native.Nat.{ℕ, _-_, _≤_};
 ghost use lib.ListN.{length};
 ghost use Rattle.rules.specs.Ascii.{ascii};
 ghost use Rattle.rules.specs.Event as event;
-ghost use Rattle.rules.specs.Name.{dayNames, monthNames, dayName, monthName, abbreviated, inCase, before12};
+ghost use Rattle.rules.specs.Name.{dayNames, monthNames, dayName, monthName, abbreviated, raised, inCase, before12};
 ghost use Rattle.text.specs.Ran.{Ran};
 ghost use Rattle.text.specs.Room.{Room};
 ghost use Rattle.names.specs.Calendar.{caseBy, startOf, packed, unpacked, casedWord};
@@ -76,43 +76,66 @@ pub fn month_length(month: u8) -> usize
     month_start(month + 1) - month_start(month)
 }
 
-// What assert_to_ascii_uppercase asserts: the twin is the table in upper case.
-fn days(upper: bool) -> [u8; 50]
-    ensures { λ r. ⌜ r ≡ inCase (caseBy upper) (flatten dayNames) ⌝ }
+// The names one after the other, and the twin, in which each byte is the upper case of the other's: what assert_to_ascii_uppercase asserts.
+fn days() -> [u8; 50]
+    ensures { λ r. ⌜ r ≡ flatten dayNames ⌝ }
 {
-    if upper { DAYS_UPPER } else { DAYS }
+    DAYS
 }
 
-fn months(upper: bool) -> [u8; 74]
-    ensures { λ r. ⌜ r ≡ inCase (caseBy upper) (flatten monthNames) ⌝ }
+fn days_upper() -> [u8; 50]
+    ensures { λ r. ⌜ r ≡ inCase raised (flatten dayNames) ⌝ }
 {
-    if upper { MONTHS_UPPER } else { MONTHS }
+    DAYS_UPPER
 }
 
+fn months() -> [u8; 74]
+    ensures { λ r. ⌜ r ≡ flatten monthNames ⌝ }
+{
+    MONTHS
+}
+
+fn months_upper() -> [u8; 74]
+    ensures { λ r. ⌜ r ≡ inCase raised (flatten monthNames) ⌝ }
+{
+    MONTHS_UPPER
+}
+
+// Each branch binds its own table: one that a value chooses is built byte by byte.
 pub fn put_day(out: &mut [u8], at: usize, room: usize, day: u8, upper: bool) -> usize
     requires { ⌜ Room (now out) room × (day ≤ 6) ⌝ }
     ensures { λ r. ⌜ ((limit : ℕ) → Ran limit room (event.write (event.put (inCase (caseBy upper) (dayName day))) ∷ []) (now (out .entry)) at (now (out .exit)) r) ⌝ }
 {
-    let table = days(upper);
     let from = day_start(day);
     let end = day_start(day + 1);
-    put_part(out, at, room, &table, from, end)
+    if upper {
+        let table = days_upper();
+        put_part(out, at, room, &table, from, end)
+    } else {
+        let table = days();
+        put_part(out, at, room, &table, from, end)
+    }
 }
 
 pub fn put_month(out: &mut [u8], at: usize, room: usize, month: u8, upper: bool) -> usize
     requires { ⌜ Room (now out) room × (1 ≤ month) × (month ≤ 12) ⌝ }
     ensures { λ r. ⌜ ((limit : ℕ) → Ran limit room (event.write (event.put (inCase (caseBy upper) (monthName month))) ∷ []) (now (out .entry)) at (now (out .exit)) r) ⌝ }
 {
-    let table = months(upper);
     let from = month_start(month);
     let end = month_start(month + 1);
-    put_part(out, at, room, &table, from, end)
+    if upper {
+        let table = months_upper();
+        put_part(out, at, room, &table, from, end)
+    } else {
+        let table = months();
+        put_part(out, at, room, &table, from, end)
+    }
 }
 
 // The first three letters of a name.
 pub struct Three(pub u8, pub u8, pub u8);
 
-// They in one number, the first in the lowest byte: such a match is one load, where a table of bytes is rebuilt at each use.
+// The three letters as one number, the first in the lowest byte: this match is one load, a table of bytes would be rebuilt at each use.
 fn day_word(day: u8) -> u32
     requires { ⌜ day ≤ 6 ⌝ }
     ensures { λ r. ⌜ r ≡ packed (abbreviated (dayName day)) ⌝ }

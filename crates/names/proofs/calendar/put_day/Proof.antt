@@ -1,12 +1,17 @@
--- The part of the table between the two places is the name.
+-- The part of either table between the two places is the name in that table's case.
+use mathlib.Core.Path.{_≡_}
+use mathlib.Core.List.{List, flatten}
+use Prim.Native.Nat.{ℕ}
 use borrow.Author.Needs.{needs}
+use Rattle.rules.specs.Name.{dayNames, dayName, inCase}
 use Rattle.text.proofs.RanLaws.{said}
-use Rattle.names.proofs.CalendarLaws.{day-part}
+use Rattle.names.specs.Calendar.{caseBy}
+use Rattle.names.proofs.CalendarLaws.{Cut, day-part, raised-table, plain-table}
 use Rattle.names.proofs.calendar.put_day.Statement.{statement}
 use Rattle.names.proofs.calendar.put_day.Tie as tie
 
-days-requires : tie.Need-days-requires
-days-requires c κs = search needs
+name-part : (c : tie.After-day-start2) {table : List ℕ} → table ≡ inCase (caseBy (c .before .before .before .args .upper)) (flatten dayNames) → Cut table (c .before .day-start .result) (c .day-start2 .result) (inCase (caseBy (c .before .before .before .args .upper)) (dayName (c .before .before .before .args .day)))
+name-part c t = day-part (c .before .before .before .args .upper) (c .before .before .before .pre .1) t (c .before .day-start .ensures) (c .day-start2 .ensures)
 
 day-start-requires : tie.Need-day-start-requires
 day-start-requires c κs = search needs
@@ -17,33 +22,54 @@ add-day-start c = search needs
 day-start-requires-2 : tie.Need-day-start-requires-2
 day-start-requires-2 c κs = search needs
 
+days-upper-requires : tie.Need-days-upper-requires
+days-upper-requires c κs = search needs
+
 slice-aggregate-put-part : tie.Need-slice-aggregate-put-part
 slice-aggregate-put-part c = search needs
 
 put-part-requires : tie.Need-put-part-requires
 put-part-requires c κs =
-    let s = c .before .before .before .before .before .before in
-    let k = day-part (s .args .upper) (s .pre .1) (c .before .before .before .before .days .ensures) (c .before .before .before .day-start .ensures) (c .before .before .day-start2 .ensures) in
-    (s .pre .0, k .order, k .inside)
+    let k = name-part (c .before .before .before .before) (raised-table dayNames (c .before .before .before .if1 .taken) (c .before .before .days-upper .ensures)) in
+    (c .before .before .before .before .before .before .before .pre .0, k .order, k .inside)
+
+days-requires : tie.Need-days-requires
+days-requires c κs = search needs
+
+slice-aggregate-put-part-2 : tie.Need-slice-aggregate-put-part-2
+slice-aggregate-put-part-2 c = search needs
+
+put-part-requires-2 : tie.Need-put-part-requires-2
+put-part-requires-2 c κs =
+    let k = name-part (c .before .before .before .before) (plain-table dayNames (c .before .before .before .if1 .left) (c .before .before .days .ensures)) in
+    (c .before .before .before .before .before .before .before .pre .0, k .order, k .inside)
 
 same-length : tie.Need-same-length
 same-length c = search needs
 
 returns : tie.Need-returns
-returns c =
-    let t = c .before .before .before in
-    let s = t .before .before .before .before .before .before in
-    λ limit. said (day-part (s .args .upper) (s .pre .1) (t .before .before .before .before .days .ensures) (t .before .before .before .day-start .ensures) (t .before .before .day-start2 .ensures) .part) (c .before .before .put-part .ensures limit)
+returns c = λ limit. said (name-part (c .before .before .before .before .before .before .before) (raised-table dayNames (c .before .before .before .before .before .before .if1 .taken) (c .before .before .before .before .before .days-upper .ensures)) .part) (c .before .before .put-part .ensures limit)
+
+same-length-2 : tie.Need-same-length-2
+same-length-2 c = search needs
+
+returns-2 : tie.Need-returns-2
+returns-2 c = λ limit. said (name-part (c .before .before .before .before .before .before .before) (plain-table dayNames (c .before .before .before .before .before .before .if1 .left) (c .before .before .before .before .before .days .ensures)) .part) (c .before .before .put-part2 .ensures limit)
 
 pub put-day-spec : {M : Type 1} → statement M
 put-day-spec =
     tie.close
     (tie.spec
-    days-requires
     day-start-requires
     add-day-start
     day-start-requires-2
+    days-upper-requires
     slice-aggregate-put-part
     put-part-requires
+    days-requires
+    slice-aggregate-put-part-2
+    put-part-requires-2
     same-length
-    returns)
+    returns
+    same-length-2
+    returns-2)

@@ -1,0 +1,4 @@
+pub mod ElseBranches
+pub mod Laws
+pub mod Positions
+pub mod Validity

@@ -1,0 +1,74 @@
+-- Each arm goes on as the turn of its byte does.
+use mathlib.Core.Path.{_∙_}
+use native.Mathlib.Omega.{arith}
+use borrow.Author.Needs.{needs}
+use Rattle.reading.proofs.Laws.{by-entry, same-turn, letter-colon, letter-e, letter-o, letter-high, letter-entry}
+use Rattle.reading.proofs.parse_letter.Statement.{statement}
+use Rattle.reading.proofs.parse_letter.Tie as tie
+
+shared-slice-read-b : tie.Need-shared-slice-read-b
+shared-slice-read-b c = search needs
+
+add-parse-colons : tie.Need-add-parse-colons
+add-parse-colons c = search needs
+
+parse-colons-requires : tie.Need-parse-colons-requires
+parse-colons-requires c κs = search needs
+
+add-parse-modified : tie.Need-add-parse-modified
+add-parse-modified c = search needs
+
+parse-modified-requires : tie.Need-parse-modified-requires
+parse-modified-requires c κs = search needs
+
+add-parse-modified-2 : tie.Need-add-parse-modified-2
+add-parse-modified-2 c = search needs
+
+parse-modified-requires-2 : tie.Need-parse-modified-requires-2
+parse-modified-requires-2 c κs = search needs
+
+spec-of-requires : tie.Need-spec-of-requires
+spec-of-requires c κs = search needs
+
+add-enter : tie.Need-add-enter
+add-enter c = search needs
+
+enter-requires : tie.Need-enter-requires
+enter-requires c κs = search needs
+
+returns : tie.Need-returns
+returns c = c .parse-colons .ensures ∙ same-turn _ _ _ _ (letter-colon _ _ _ (c .before .match .keys1))
+
+returns-2 : tie.Need-returns-2
+returns-2 c = c .parse-modified .ensures ∙ same-turn _ _ _ _ (letter-e _ _ _ (c .before .match .keys2))
+
+returns-3 : tie.Need-returns-3
+returns-3 c = c .parse-modified2 .ensures ∙ same-turn _ _ _ _ (letter-o _ _ _ (c .before .match .keys3))
+
+returns-4 : tie.Need-returns-4
+returns-4 c = same-turn _ _ _ _ (letter-high _ _ _ (c .before .match .rest .0 .0 .1) (c .before .match .rest .0 .1) (c .before .match .rest .1) (omega (arith, c .if1 .taken)))
+
+returns-5 : tie.Need-returns-5
+returns-5 c =
+    c .enter .ensures
+    ∙ by-entry _ _ _ _ _ _ _ (c .before .spec-of .ensures) _ (letter-entry _ _ _ (c .before .before .before .match .rest .0 .0 .1) (c .before .before .before .match .rest .0 .1) (c .before .before .before .match .rest .1) (omega (arith, c .before .before .if1 .left)))
+
+pub parse-letter-spec : {M : Type 1} → statement M
+parse-letter-spec =
+    tie.close
+    (tie.spec
+    shared-slice-read-b
+    add-parse-colons
+    parse-colons-requires
+    add-parse-modified
+    parse-modified-requires
+    add-parse-modified-2
+    parse-modified-requires-2
+    spec-of-requires
+    add-enter
+    enter-requires
+    returns
+    returns-2
+    returns-3
+    returns-4
+    returns-5)
