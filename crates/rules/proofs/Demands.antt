@@ -1,7 +1,6 @@
 -- The tender's first two demands, of the outcome that the formatting entry promises.
 use mathlib.Core.Path.{_≡_, refl, sym, ap, _∙_}
-use mathlib.Core.Bool.{true, false}
-use mathlib.Core.List.{List, [], _∷_, _++_, map}
+use mathlib.Core.List.{List, _++_}
 use mathlib.Core.Logic.{_⊎_, inl, inr}
 use Prim.Native.Nat.{ℕ, _+_, _-_, _≤_, _<_}
 use native.Mathlib.Omega.{arith}
@@ -12,73 +11,24 @@ use lib.IntN.{pos}
 use Rattle.rules.specs.declared.Record.{Record}
 use Rattle.rules.specs.declared.IsoWeek.{IsoWeek}
 use Rattle.rules.specs.declared.Number.the-variants.{YearIso8601, YearIso8601Rem100, WeekNumberIso8601}
-use Rattle.rules.specs.declared.Piece.{Piece}
-use Rattle.rules.specs.Event.{Write, Event, write, check, textOf, Count, at, no, writeAt, one, tally, Outcome, done, refused, outcomeOf, run, reported, bufferAfter}
+use Rattle.rules.specs.Event.{Event, textOf, Count, at, no, tally, Outcome, done, refused, outcomeOf, run, reported, bufferAfter}
 use Rattle.rules.specs.Decimal.{floorMod}
 use Rattle.rules.specs.Week.{daysIn, thursdayRule}
-use Rattle.rules.specs.Writing.{valueOf, leadOf, bodyOf, specEvents, eventsOf}
-use Rattle.rules.specs.Format.{Item, literal, echo, directive, cut, items, itemEvents, events, limitOf, formatEvents, formatted}
+use Rattle.rules.specs.Writing.{valueOf}
+use Rattle.rules.specs.Format.{items, limitOf, formatEvents, formatted}
 use Rattle.rules.proofs.WeekLaws.{iso-exists}
-use Rattle.rules.proofs.EventLaws.{length-text, write-cases, tally-done, tally-room}
+use Rattle.rules.proofs.FormatLaws.{Among, Numbered, numbered-items, CountOk, tally-ok}
+use Rattle.rules.proofs.EventLaws.{length-text, tally-done, tally-room}
 
--- ## Every check has a number of the table
+-- ## A text or a refusal of the table
 
 abbrev pub InTable : ℕ → Type 0
-InTable number = (1 ≤ number) × (number ≤ 5)
+InTable = Among 5
 
-unfoldable pub Numbered : List Event → Type 0
-Numbered [] = Unit {0}
-Numbered (write w ∷ es) = Numbered es
-Numbered (check ok number ∷ es) = InTable number × Numbered es
-
-numbered-join : (xs ys : List Event) → Numbered xs → Numbered ys → Numbered (xs ++ ys)
-unfolding Numbered
-numbered-join [] ys h k = k
-numbered-join (write w ∷ xs) ys h k = numbered-join xs ys h k
-numbered-join (check ok number ∷ xs) ys h k = (h .0, numbered-join xs ys (h .1) k)
-
-numbered-writes : (ws : List Write) → Numbered (map write ws)
-unfolding Numbered
-numbered-writes [] = tt
-numbered-writes (w ∷ ws) = numbered-writes ws
-
-numbered-piece : (r : Record) (zone : List ℕ) (p : Piece) → Numbered (eventsOf r zone p)
-unfolding eventsOf specEvents Numbered
-numbered-piece r zone p =
-    numbered-join (map write (leadOf (p .spec) p (r .year))) _ (numbered-writes (leadOf (p .spec) p (r .year)))
-    ((lit≤ tt, lit≤ tt), numbered-writes (bodyOf (p .spec) p r zone))
-
-numbered-item : (r : Record) (zone : List ℕ) (i : Item) → Numbered (itemEvents (eventsOf r zone) i)
-unfolding itemEvents Numbered
-numbered-item r zone (literal b) = tt
-numbered-item r zone (echo text) = tt
-numbered-item r zone (directive p) = numbered-piece r zone p
-numbered-item r zone cut = ((lit≤ tt, lit≤ tt), tt)
-
-numbered-items : (r : Record) (zone : List ℕ) (is : List Item) → Numbered (events (eventsOf r zone) is)
-unfolding events Numbered
-numbered-items r zone [] = tt
-numbered-items r zone (i ∷ is) = numbered-join (itemEvents (eventsOf r zone) i) (events (eventsOf r zone) is) (numbered-item r zone i) (numbered-items r zone is)
-
-numbered-format : (format zone : List ℕ) (r : Record) (room : ℕ) → Numbered (formatEvents format zone r room)
+numbered-format : (format zone : List ℕ) (r : Record) (room : ℕ) → Numbered 5 (formatEvents format zone r room)
 unfolding formatEvents Numbered
 numbered-format format zone r room =
-    ((lit≤ tt, lit≤ tt), ((lit≤ tt, lit≤ tt), ((lit≤ tt, lit≤ tt), numbered-items r zone (items format))))
-
--- ## So a refusal has one
-
-abbrev CountOk : Count → Type 0
-CountOk (at n) = Unit {0}
-CountOk (no number n) = InTable number
-
-tally-ok : (limit room : ℕ) (es : List Event) (c : Count) → Numbered es → CountOk c → CountOk (tally limit room es c)
-unfolding tally one Numbered
-tally-ok limit room [] c h k = k
-tally-ok limit room (write w ∷ es) (at n) h k = tally-ok limit room es (writeAt limit room w n) h (write-cases limit room CountOk w n (λ f. tt) (lit≤ tt, lit≤ tt) (lit≤ tt, lit≤ tt))
-tally-ok limit room (write w ∷ es) (no number n) h k = tally-ok limit room es (no number n) h k
-tally-ok limit room (check true number ∷ es) (at n) h k = tally-ok limit room es (at n) (h .1) k
-tally-ok limit room (check false number ∷ es) (at n) h k = tally-ok limit room es (no number n) (h .1) (h .0)
-tally-ok limit room (check ok number ∷ es) (no number′ n) h k = tally-ok limit room es (no number′ n) (h .1) k
+    ((lit≤ tt, lit≤ tt), ((lit≤ tt, lit≤ tt), ((lit≤ tt, lit≤ tt), numbered-items 5 (lit≤ tt) r zone (items format))))
 
 -- "Any format, record, zone name and buffer gets a length or one refusal from the table"
 pub text-or-refusal : (format zone : List ℕ) (r : Record) (room : ℕ) →
@@ -86,7 +36,7 @@ pub text-or-refusal : (format zone : List ℕ) (r : Record) (room : ℕ) →
     ⊎ ((number : ℕ) × (InTable number × (formatted format zone r room ≡ refused number)))
 unfolding formatted run
 text-or-refusal format zone r room =
-    go (tally limit room es (at 0)) (tally-ok limit room es (at 0) (numbered-format format zone r room) tt)
+    go (tally limit room es (at 0)) (tally-ok 5 (lit≤ tt) limit room es (at 0) (numbered-format format zone r room) tt)
   where
     limit : ℕ
     limit = limitOf (length format)
@@ -94,7 +44,7 @@ text-or-refusal format zone r room =
     es : List Event
     es = formatEvents format zone r room
 
-    go : (c : Count) → CountOk c → (outcomeOf c (textOf es) ≡ done (textOf es)) ⊎ ((number : ℕ) × (InTable number × (outcomeOf c (textOf es) ≡ refused number)))
+    go : (c : Count) → CountOk 5 (lit≤ tt) c → (outcomeOf c (textOf es) ≡ done (textOf es)) ⊎ ((number : ℕ) × (InTable number × (outcomeOf c (textOf es) ≡ refused number)))
     go (at n) h = inl refl
     go (no number n) h = inr (number, (h, refl))
 

@@ -3,6 +3,7 @@ pub mod Demands
 pub mod EdgesHold
 pub mod EventLaws
 pub mod FloorLaws
+pub mod FormatLaws
 pub mod Joining
 pub mod OneAnswer
 pub mod OriginalWeek

@@ -5,14 +5,13 @@ use mathlib.Core.List.{List, [], _∷_}
 use Prim.Native.Nat.{ℕ, _≤_, _<_}
 use native.Mathlib.Omega.{arith}
 use lib.ListN.{length}
-use borrow.Author.Tests.{le-leb}
 use Rattle.rules.specs.declared.Record.{Record}
 use Rattle.rules.specs.Record.{InRange, longestFormat, longestZone, longestBuffer}
 use Rattle.rules.specs.Event.{textOf, lengthOf, done, refused, run, Holds}
 use Rattle.rules.specs.Writing.{eventsOf}
-use Rattle.rules.specs.Format.{items, read, ending, events, whole, limitOf, formatEvents, formatted}
+use Rattle.rules.specs.Format.{items, read, ending, events, whole, limitOf, formatted}
 use Rattle.rules.specs.Size.{Stamps, textFor, Kept}
-use Rattle.rules.proofs.EventLaws.{pass-first}
+use Rattle.rules.proofs.FormatLaws.{runs}
 use Rattle.sizing.specs.Witness.{Stamp, lengthAt}
 use Rattle.sizing.proofs.Fitting.{run-fits, run-short, run-unchecked}
 use Rattle.sizing.proofs.Checks.{in-range-holds}
@@ -22,13 +21,6 @@ pub record Sets (longest : ℕ) (Every Some : Stamps) : Type 0 where
   pub among : (r : Record) (zone : List ℕ) → Some r zone → Every r zone
   pub short : (r : Record) (zone : List ℕ) → Every r zone → length zone ≤ longest
   pub in-range : (r : Record) (zone : List ℕ) → Some r zone → InRange r zone
-
--- inputs that keep the longest lengths run as the events of their items
-pub runs : (format zone : List ℕ) (r : Record) (room : ℕ) → length format ≤ longestFormat → length zone ≤ longestZone → room ≤ longestBuffer →
-    formatted format zone r room ≡ run (limitOf (length format)) room (events (eventsOf r zone) (items format))
-unfolding formatted formatEvents run textOf
-runs format zone r room f z b =
-    rw (le-leb (length format) longestFormat f, le-leb (length zone) longestZone z, le-leb room longestBuffer b, pass-first, pass-first, pass-first)
 
 -- no text of at most 65,536 bytes passes the size limit
 pub within-limit : (s : Stamp) (format : List ℕ) → lengthAt s format ≤ longestBuffer → lengthAt s format ≤ limitOf (length format)

@@ -14,12 +14,12 @@ use Rattle.rules.specs.declared.Padding.{Padding}
 use Rattle.rules.specs.declared.Record.{Record}
 use Rattle.rules.specs.Record.{Field, okField, allOk, weekday, dayOfYear}
 use Rattle.rules.specs.Decimal.{Fill}
+use Rattle.rules.specs.Writing.{orIfZero, yearWidth, valueOf, defaultWidth, fillOf, numberFields}
 use Rattle.fields.proofs.Laws.{alone}
 use Rattle.numbers.proofs.Signed.{widened-fits}
-use Rattle.rules.specs.Writing.{orIfZero, yearWidth, valueOf, defaultWidth, fillOf, numberFields}
 use Rattle.values.specs.declared.Value.{Value}
 use Rattle.values.specs.Value.{fillBy, ValueIs}
-use Rattle.values.specs.Inner.{Valued, InWeek}
+use Rattle.values.specs.Inner.{Valued, InWeek, Weekly}
 
 -- ## "with 0 read as"
 
@@ -51,40 +51,50 @@ module _ (r : Record) {ok : Bool} (checked : (zone : List ℕ) → ok ≡ allOk 
 
 -- ## An answer
 
--- what the cast of an i32 to an i64 asks
-pub widens : (z : ℤ) → SFits w32 z → SFits w64 (toZ w32 (ofZ w32 z))
-widens z f = subst⁻¹ (SFits w64) (toZ-ofZ w32 z f) (widened-fits z f)
-
 pub year-narrow : (y : ℤ) → yearWidth y ≤ 5
 year-narrow (pos n) = omega arith
 year-narrow (negsuc n) = omega arith
+
+-- what the cast of an i32 to an i64 asks
+pub widens : (z : ℤ) → SFits w32 z → SFits w64 (toZ w32 (ofZ w32 z))
+widens z f = subst⁻¹ (SFits w64) (toZ-ofZ w32 z f) (widened-fits z f)
 
 -- a number that is known to be another
 pub renumbered : {ok : Bool} {y z : ℤ} {width : ℕ} {space : Bool} {v : Value} → y ≡ z → Valued ok y width space v → Valued ok z width space v
 renumbered {ok} {y} {z} {width} {space} {v} e h = subst (λ (x : ℤ). Valued ok x width space v) e h
 
--- the answer for a directive k: of its fields' check, and of the number wherever they are in range
-pub answered : {m k : Number} {r : Record} {v : Value} {ok : Bool} {number : ℤ} {space : Bool} → m ≡ k → fillOf k ≡ fillBy space
-    → ((zone : List ℕ) → ok ≡ allOk (numberFields k) r zone) → (ok ≡ true → number ≡ valueOf k r)
-    → Valued ok number (defaultWidth k number) space v → ValueIs m r v
-answered {m} {k} {r} {v} {ok} {number} {space} e f c n h =
+-- an answer that goes by the week's fields
+pub weekly : {r : Record} {v : Value} {ok : Bool} {number : ℤ} {width : ℕ} → ((zone : List ℕ) → ok ≡ allOk (weekday ∷ dayOfYear ∷ []) r zone) → Valued ok number width false v → Weekly r number width v
+weekly {r} {v} {ok} {number} {width} c h =
+    let e : v .ok ≡ ok = ap (λ (u : Value). u .ok) (h .is) in
+    record { checked = λ zone. e ∙ c zone; valued = subst⁻¹ (λ (b : Bool). Valued b number width false v) e h }
+
+-- the answer for a directive k: of the check of its fields, and of the number wherever they are in range
+answered : {m k : Number} {fs : List Field} {r : Record} {v : Value} {ok : Bool} {number : ℤ} {space : Bool} → m ≡ k → fillOf k ≡ fillBy space → numberFields k ≡ fs
+    → ((zone : List ℕ) → ok ≡ allOk fs r zone) → (ok ≡ true → number ≡ valueOf k r) → Valued ok number (defaultWidth k number) space v → ValueIs m r v
+answered {k = k} {r = r} {v = v} e f l c n h =
     subst⁻¹ (λ (j : Number). ValueIs j r v) e
     (subst⁻¹ (ValueIs k r) (h .is)
     (record {
-      ok = c;
+      ok = λ zone. c zone ∙ sym (ap (λ (fs : List Field). allOk fs r zone) l);
       number = n;
       width = λ o. ap (defaultWidth k) (n o);
       fill = λ p. ap (λ (g : Padding → Fill). g p) f;
       narrow = h .narrow;
     }))
 
--- a directive that checks no field
-pub unchecked : {m k : Number} {r : Record} {v : Value} {number : ℤ} {space : Bool} → m ≡ k → fillOf k ≡ fillBy space → numberFields k ≡ [] → number ≡ valueOf k r
-    → Valued true number (defaultWidth k number) space v → ValueIs m r v
+-- it checks no field
+pub unchecked : {m k : Number} {r : Record} {v : Value} {number : ℤ} {space : Bool} → m ≡ k → fillOf k ≡ fillBy space → numberFields k ≡ []
+    → number ≡ valueOf k r → Valued true number (defaultWidth k number) space v → ValueIs m r v
 unfolding allOk
-unchecked {m} {k} {r} e f l n h = answered e f (λ zone. sym (ap (λ (fs : List Field). allOk fs r zone) l)) (λ o. n) h
+unchecked e f l n h = answered e f l (λ zone. refl) (λ o. n) h
 
--- a directive that checks one field
-pub checked : {m k : Number} {f : Field} {r : Record} {v : Value} {ok : Bool} {number : ℤ} {space : Bool} → m ≡ k → fillOf k ≡ fillBy space → numberFields k ≡ f ∷ []
-    → ((zone : List ℕ) → ok ≡ okField f r zone) → number ≡ valueOf k r → Valued ok number (defaultWidth k number) space v → ValueIs m r v
-checked {f = f} {r = r} e g l c n h = answered e g (λ zone. alone r zone f (c zone) ∙ sym (ap (λ (fs : List Field). allOk fs r zone) l)) (λ o. n) h
+-- it checks one field
+pub checked : {m k : Number} {x : Field} {r : Record} {v : Value} {ok : Bool} {number : ℤ} {space : Bool} → m ≡ k → fillOf k ≡ fillBy space → numberFields k ≡ x ∷ []
+    → ((zone : List ℕ) → ok ≡ okField x r zone) → number ≡ valueOf k r → Valued ok number (defaultWidth k number) space v → ValueIs m r v
+checked {x = x} {r = r} e f l c n h = answered e f l (λ zone. alone r zone x (c zone)) (λ o. n) h
+
+-- it checks the week's fields
+pub week-checked : {m k : Number} {r : Record} {v : Value} {number : ℤ} → m ≡ k → fillOf k ≡ fillBy false → numberFields k ≡ weekday ∷ dayOfYear ∷ []
+    → (InWeek r → number ≡ valueOf k r) → Weekly r number (defaultWidth k number) v → ValueIs m r v
+week-checked {r = r} e f l n h = answered e f l (h .checked) (λ o. n (in-week r (h .checked) o)) (h .valued)

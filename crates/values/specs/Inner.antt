@@ -1,6 +1,6 @@
 -- What the inner functions ask and answer.
 use mathlib.Core.Path.{_≡_}
-use mathlib.Core.Bool.{Bool, true}
+use mathlib.Core.Bool.{Bool, true, false}
 use mathlib.Core.List.{List, [], _∷_}
 use Prim.Native.Nat.{ℕ, _≤_}
 use lib.IntN.{ℤ}
@@ -16,3 +16,8 @@ pub record Valued (ok : Bool) (number : ℤ) (width : ℕ) (space : Bool) (v : V
 -- the fields that week numbers are computed from are in range
 abbrev pub InWeek : Record → Type 0
 InWeek r = (zone : List ℕ) → allOk (weekday ∷ dayOfYear ∷ []) r zone ≡ true
+
+-- an answer that goes by those fields
+pub record Weekly (r : Record) (number : ℤ) (width : ℕ) (v : Value) : Type 0 where
+  pub checked : (zone : List ℕ) → v .ok ≡ allOk (weekday ∷ dayOfYear ∷ []) r zone
+  pub valued : Valued (v .ok) number width false v

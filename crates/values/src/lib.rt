@@ -7,9 +7,7 @@ ghost use Rattle.rules.specs.Week.{isoWeek, weekNumber};
 ghost use Rattle.rules.specs.Writing.{yearWidth, orIfZero, hour12};
 ghost use Rattle.week.specs.Start.{startOf};
 ghost use Rattle.values.specs.Value.{ValueIs};
-ghost use Rattle.values.specs.Inner.{Valued, InWeek};
-use numbers::div_euclid_100;
-use numbers::rem_euclid_100;
+ghost use Rattle.values.specs.Inner.{Valued, InWeek, Weekly};
 use rules::IsoWeek;
 use rules::Number;
 use rules::Record;
@@ -37,14 +35,14 @@ pub fn year_width(year: i64) -> usize
 }
 
 // Sunday is 7.
-fn from_monday(day_of_week: u8) -> u8
+fn from_1(day_of_week: u8) -> u8
     ensures { λ r. ⌜ r ≡ orIfZero 7 «day_of_week» ⌝ }
 {
     if day_of_week == 0 { 7 } else { day_of_week }
 }
 
 // A number whose own fill is zeros.
-fn zeros(ok: bool, number: i64, width: usize) -> Value
+fn wide(ok: bool, number: i64, width: usize) -> Value
     requires { ⌜ width ≤ 5 ⌝ }
     ensures { λ v. ⌜ Valued ok number width false v ⌝ }
 {
@@ -56,17 +54,17 @@ fn zeros(ok: bool, number: i64, width: usize) -> Value
     }
 }
 
-fn small(ok: bool, number: u8, width: usize) -> Value
+fn zeros(ok: bool, number: u8, width: usize) -> Value
     requires { ⌜ width ≤ 5 ⌝ }
     ensures { λ v. ⌜ Valued ok (pos number) width false v ⌝ }
 {
-    zeros(ok, number as i64, width)
+    wide(ok, number as i64, width)
 }
 
 fn year(ok: bool, year: i64) -> Value
     ensures { λ v. ⌜ Valued ok year (yearWidth year) false v ⌝ }
 {
-    zeros(ok, year, year_width(year))
+    wide(ok, year, year_width(year))
 }
 
 // A number whose own fill is spaces.
@@ -82,7 +80,7 @@ fn spaces(ok: bool, number: u8) -> Value
 }
 
 // The ISO year and week of a day that is in range, else zeros.
-fn iso_week(record: Record) -> IsoWeek
+fn iso(record: Record) -> IsoWeek
     ensures { λ r. ⌜ (InWeek «record» → r ≡ isoWeek («record» .year) («record» .«day_of_week») («record» .«day_of_year»)) ⌝ }
 {
     if fields::week(record) {
@@ -92,7 +90,7 @@ fn iso_week(record: Record) -> IsoWeek
     }
 }
 
-fn week_number(record: Record, week_start: WeekStart) -> u8
+fn week_of(record: Record, week_start: WeekStart) -> u8
     ensures { λ r. ⌜ (InWeek «record» → r ≡ weekNumber (startOf «week_start») («record» .«day_of_week») («record» .«day_of_year»)) ⌝ }
 {
     if fields::week(record) {
@@ -102,46 +100,37 @@ fn week_number(record: Record, week_start: WeekStart) -> u8
     }
 }
 
+// A two-digit number of the weekday and the day of the year.
+fn weekly(record: Record, number: u8) -> Value
+    ensures { λ v. ⌜ Weekly «record» (pos number) 2 v ⌝ }
+{
+    zeros(fields::week(record), number, 2)
+}
+
 pub fn value_of(number: Number, record: Record) -> Value
     ensures { λ v. ⌜ ValueIs number «record» v ⌝ }
 {
     match number {
         Number::Year4Digits => year(true, record.year as i64),
-        Number::YearDiv100 => zeros(true, div_euclid_100(record.year) as i64, 2),
-        Number::YearRem100 => small(true, rem_euclid_100(record.year as i64), 2),
-        Number::Month => small(fields::month(record), record.month, 2),
-        Number::MonthDayZero => small(fields::day(record), record.day, 2),
+        Number::YearDiv100 => wide(true, numbers::div_euclid_100(record.year) as i64, 2),
+        Number::YearRem100 => zeros(true, numbers::rem_euclid_100(record.year as i64), 2),
+        Number::Month => zeros(fields::month(record), record.month, 2),
+        Number::MonthDayZero => zeros(fields::day(record), record.day, 2),
         Number::MonthDaySpace => spaces(fields::day(record), record.day),
-        Number::YearDay => zeros(fields::day_of_year(record), record.day_of_year as i64, 3),
-        Number::Hour24hZero => small(fields::hour(record), record.hour, 2),
+        Number::YearDay => wide(fields::day_of_year(record), record.day_of_year as i64, 3),
+        Number::Hour24hZero => zeros(fields::hour(record), record.hour, 2),
         Number::Hour24hSpace => spaces(fields::hour(record), record.hour),
-        Number::Hour12hZero => small(fields::hour(record), hour12(record.hour), 2),
+        Number::Hour12hZero => zeros(fields::hour(record), hour12(record.hour), 2),
         Number::Hour12hSpace => spaces(fields::hour(record), hour12(record.hour)),
-        Number::Minute => small(fields::minute(record), record.minute, 2),
-        Number::Second => small(fields::second(record), record.second, 2),
-        Number::WeekDayFrom1 => small(
-            fields::day_of_week(record),
-            from_monday(record.day_of_week),
-            1,
-        ),
-        Number::WeekDayFrom0 => small(fields::day_of_week(record), record.day_of_week, 1),
-        Number::YearIso8601 => year(fields::week(record), iso_week(record).year),
-        Number::YearIso8601Rem100 => small(
-            fields::week(record),
-            rem_euclid_100(iso_week(record).year),
-            2,
-        ),
-        Number::WeekNumberIso8601 => small(fields::week(record), iso_week(record).week, 2),
-        Number::WeekNumberFromSunday => small(
-            fields::week(record),
-            week_number(record, WeekStart::Sunday),
-            2,
-        ),
-        Number::WeekNumberFromMonday => small(
-            fields::week(record),
-            week_number(record, WeekStart::Monday),
-            2,
-        ),
-        Number::SecondsSinceEpoch => zeros(true, record.to_int, 1),
+        Number::Minute => zeros(fields::minute(record), record.minute, 2),
+        Number::Second => zeros(fields::second(record), record.second, 2),
+        Number::WeekDayFrom1 => zeros(fields::day_of_week(record), from_1(record.day_of_week), 1),
+        Number::WeekDayFrom0 => zeros(fields::day_of_week(record), record.day_of_week, 1),
+        Number::YearIso8601 => year(fields::week(record), iso(record).year),
+        Number::YearIso8601Rem100 => weekly(record, numbers::rem_euclid_100(iso(record).year)),
+        Number::WeekNumberIso8601 => weekly(record, iso(record).week),
+        Number::WeekNumberFromSunday => weekly(record, week_of(record, WeekStart::Sunday)),
+        Number::WeekNumberFromMonday => weekly(record, week_of(record, WeekStart::Monday)),
+        Number::SecondsSinceEpoch => wide(true, record.to_int, 1),
     }
 }

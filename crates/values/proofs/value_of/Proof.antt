@@ -1,4 +1,4 @@
--- Each arm is one of three laws: of no field, of one field, of the two that weeks read.
+-- Each arm is one of three laws: of no field, of one field, of the week's fields. What else its calls ask is found by search.
 use mathlib.Core.Path.{refl, ap, _∙_}
 use native.Mathlib.Omega.{arith}
 use lib.IntN.{ℤ, pos}
@@ -9,15 +9,15 @@ use Rattle.rules.specs.declared.IsoWeek.{IsoWeek}
 use Rattle.rules.specs.Decimal.{floorDiv, floorMod}
 use Rattle.rules.specs.Writing.{valueOf, defaultWidth, fillOf, numberFields}
 use Rattle.numbers.proofs.Signed.{widened}
-use Rattle.values.proofs.Laws.{in-week, widens, answered, unchecked, checked}
+use Rattle.values.proofs.Laws.{widens, weekly, unchecked, checked, week-checked}
 use Rattle.values.proofs.value_of.Statement.{statement}
 use Rattle.values.proofs.value_of.Tie as tie
 
 cast-year : tie.Need-cast-year
 cast-year c = widens (c .before .before .before .before .args .«record» .year) (omega arith)
 
-cast-zeros : tie.Need-cast-zeros
-cast-zeros c = widens (c .div-euclid-100 .result) (record { sfits = c .div-euclid-100 .ok })
+cast-wide : tie.Need-cast-wide
+cast-wide c = widens (c .div-euclid-100 .result) (record { sfits = c .div-euclid-100 .ok })
 
 cast-rem-euclid-100 : tie.Need-cast-rem-euclid-100
 cast-rem-euclid-100 c = widens (c .before .before .before .before .args .«record» .year) (omega arith)
@@ -30,22 +30,27 @@ returns c = unchecked (c .before .before .before .enum-told .given .1) refl refl
 -- YearDiv100
 returns-2 : tie.Need-returns-2
 unfolding valueOf defaultWidth fillOf numberFields
-returns-2 c = unchecked (c .before .before .before .enum-told2 .given .1) refl refl (widened _ (record { sfits = c .before .div-euclid-100 .ok }) ∙ c .before .div-euclid-100 .ensures ∙ ap (λ (y : ℤ). floorDiv y 100) (toZ-ofZ w32 (c .before .before .before .before .before .args .«record» .year) (omega arith))) (c .zeros .ensures)
+returns-2 c =
+    let q = c .before .div-euclid-100 in
+    let year = toZ-ofZ w32 (c .before .before .before .before .before .args .«record» .year) (omega arith) in
+    unchecked (c .before .before .before .enum-told2 .given .1) refl refl (widened _ (record { sfits = q .ok }) ∙ q .ensures ∙ ap (λ (y : ℤ). floorDiv y 100) year) (c .wide .ensures)
 
 -- YearRem100
 returns-3 : tie.Need-returns-3
 unfolding valueOf defaultWidth fillOf numberFields
-returns-3 c = unchecked (c .before .before .before .before .enum-told3 .given .1) refl refl (ap pos (c .before .rem-euclid-100 .ensures ∙ ap (λ (y : ℤ). floorMod y 100) (widened (c .before .before .before .before .before .before .args .«record» .year) (omega arith)))) (c .small .ensures)
+returns-3 c =
+    let year = widened (c .before .before .before .before .before .before .args .«record» .year) (omega arith) in
+    unchecked (c .before .before .before .before .enum-told3 .given .1) refl refl (ap pos (c .before .rem-euclid-100 .ensures ∙ ap (λ (y : ℤ). floorMod y 100) year)) (c .zeros .ensures)
 
 -- Month
 returns-4 : tie.Need-returns-4
 unfolding valueOf defaultWidth fillOf numberFields
-returns-4 c = checked (c .before .before .enum-told4 .given .1) refl refl (c .before .month .ensures) refl (c .small2 .ensures)
+returns-4 c = checked (c .before .before .enum-told4 .given .1) refl refl (c .before .month .ensures) refl (c .zeros2 .ensures)
 
 -- MonthDayZero
 returns-5 : tie.Need-returns-5
 unfolding valueOf defaultWidth fillOf numberFields
-returns-5 c = checked (c .before .before .enum-told5 .given .1) refl refl (c .before .day .ensures) refl (c .small3 .ensures)
+returns-5 c = checked (c .before .before .enum-told5 .given .1) refl refl (c .before .day .ensures) refl (c .zeros3 .ensures)
 
 -- MonthDaySpace
 returns-6 : tie.Need-returns-6
@@ -55,12 +60,14 @@ returns-6 c = checked (c .before .before .enum-told6 .given .1) refl refl (c .be
 -- YearDay
 returns-7 : tie.Need-returns-7
 unfolding valueOf defaultWidth fillOf numberFields
-returns-7 c = checked (c .before .before .before .enum-told7 .given .1) refl refl (c .before .before .day-of-year .ensures) (toZ-pos w64 (c .before .before .before .before .before .args .«record» .«day_of_year») (omega arith)) (c .zeros2 .ensures)
+returns-7 c =
+    let day = toZ-pos w64 (c .before .before .before .before .before .args .«record» .«day_of_year») (omega arith) in
+    checked (c .before .before .before .enum-told7 .given .1) refl refl (c .before .before .day-of-year .ensures) day (c .wide2 .ensures)
 
 -- Hour24hZero
 returns-8 : tie.Need-returns-8
 unfolding valueOf defaultWidth fillOf numberFields
-returns-8 c = checked (c .before .before .enum-told8 .given .1) refl refl (c .before .hour .ensures) refl (c .small4 .ensures)
+returns-8 c = checked (c .before .before .enum-told8 .given .1) refl refl (c .before .hour .ensures) refl (c .zeros4 .ensures)
 
 -- Hour24hSpace
 returns-9 : tie.Need-returns-9
@@ -70,7 +77,7 @@ returns-9 c = checked (c .before .before .enum-told9 .given .1) refl refl (c .be
 -- Hour12hZero
 returns-10 : tie.Need-returns-10
 unfolding valueOf defaultWidth fillOf numberFields
-returns-10 c = checked (c .before .before .before .enum-told10 .given .1) refl refl (c .before .before .hour3 .ensures) (ap pos (c .before .hour12 .ensures)) (c .small5 .ensures)
+returns-10 c = checked (c .before .before .before .enum-told10 .given .1) refl refl (c .before .before .hour3 .ensures) (ap pos (c .before .hour12 .ensures)) (c .zeros5 .ensures)
 
 -- Hour12hSpace
 returns-11 : tie.Need-returns-11
@@ -80,131 +87,85 @@ returns-11 c = checked (c .before .before .before .enum-told11 .given .1) refl r
 -- Minute
 returns-12 : tie.Need-returns-12
 unfolding valueOf defaultWidth fillOf numberFields
-returns-12 c = checked (c .before .before .enum-told12 .given .1) refl refl (c .before .minute .ensures) refl (c .small6 .ensures)
+returns-12 c = checked (c .before .before .enum-told12 .given .1) refl refl (c .before .minute .ensures) refl (c .zeros6 .ensures)
 
 -- Second
 returns-13 : tie.Need-returns-13
 unfolding valueOf defaultWidth fillOf numberFields
-returns-13 c = checked (c .before .before .enum-told13 .given .1) refl refl (c .before .second .ensures) refl (c .small7 .ensures)
+returns-13 c = checked (c .before .before .enum-told13 .given .1) refl refl (c .before .second .ensures) refl (c .zeros7 .ensures)
 
 -- WeekDayFrom1
 returns-14 : tie.Need-returns-14
 unfolding valueOf defaultWidth fillOf numberFields
-returns-14 c = checked (c .before .before .before .enum-told14 .given .1) refl refl (c .before .before .day-of-week .ensures) (ap pos (c .before .from-monday .ensures)) (c .small8 .ensures)
+returns-14 c = checked (c .before .before .before .enum-told14 .given .1) refl refl (c .before .before .day-of-week .ensures) (ap pos (c .before .from-1 .ensures)) (c .zeros8 .ensures)
 
 -- WeekDayFrom0
 returns-15 : tie.Need-returns-15
 unfolding valueOf defaultWidth fillOf numberFields
-returns-15 c = checked (c .before .before .enum-told15 .given .1) refl refl (c .before .day-of-week2 .ensures) refl (c .small9 .ensures)
+returns-15 c = checked (c .before .before .enum-told15 .given .1) refl refl (c .before .day-of-week2 .ensures) refl (c .zeros9 .ensures)
 
 -- YearIso8601
 returns-16 : tie.Need-returns-16
 unfolding valueOf defaultWidth fillOf numberFields
-returns-16 c = answered (c .before .before .before .before .enum-told16 .given .1) refl (c .before .before .before .week .ensures) (λ o. toZ-ofZ w64 (c .before .before .iso-week .result .year) (omega arith) ∙ ap (λ (w : IsoWeek). w .year) (c .before .before .iso-week .ensures (in-week _ (c .before .before .before .week .ensures) o))) (c .year2 .ensures)
+returns-16 c =
+    let iso = c .before .before .iso in
+    let year = toZ-ofZ w64 (iso .result .year) (omega arith) in
+    week-checked (c .before .before .before .before .enum-told16 .given .1) refl refl (λ w. year ∙ ap (λ (i : IsoWeek). i .year) (iso .ensures w)) (weekly (c .before .before .before .week .ensures) (c .year2 .ensures))
 
 -- YearIso8601Rem100
 returns-17 : tie.Need-returns-17
 unfolding valueOf defaultWidth fillOf numberFields
-returns-17 c = answered (c .before .before .before .before .before .enum-told17 .given .1) refl (c .before .before .before .before .week2 .ensures) (λ o. ap pos (c .before .rem-euclid-1002 .ensures ∙ ap (λ (y : ℤ). floorMod y 100) (toZ-ofZ w64 (c .before .before .before .iso-week2 .result .year) (omega arith) ∙ ap (λ (w : IsoWeek). w .year) (c .before .before .before .iso-week2 .ensures (in-week _ (c .before .before .before .before .week2 .ensures) o))))) (c .small10 .ensures)
+returns-17 c =
+    let iso = c .before .before .before .iso2 in
+    let year = toZ-ofZ w64 (iso .result .year) (omega arith) in
+    let rem = c .before .rem-euclid-1002 .ensures ∙ ap (λ (y : ℤ). floorMod y 100) year in
+    week-checked (c .before .before .before .before .enum-told17 .given .1) refl refl (λ w. ap pos (rem ∙ ap (λ (i : IsoWeek). floorMod (i .year) 100) (iso .ensures w))) (c .weekly .ensures)
 
 -- WeekNumberIso8601
 returns-18 : tie.Need-returns-18
 unfolding valueOf defaultWidth fillOf numberFields
-returns-18 c = answered (c .before .before .before .enum-told18 .given .1) refl (c .before .before .week3 .ensures) (λ o. ap (λ (w : IsoWeek). pos (w .week)) (c .before .iso-week3 .ensures (in-week _ (c .before .before .week3 .ensures) o))) (c .small11 .ensures)
+returns-18 c = week-checked (c .before .before .enum-told18 .given .1) refl refl (λ w. ap (λ (i : IsoWeek). pos (i .week)) (c .before .iso3 .ensures w)) (c .weekly2 .ensures)
 
 -- WeekNumberFromSunday
 returns-19 : tie.Need-returns-19
 unfolding valueOf defaultWidth fillOf numberFields
-returns-19 c = answered (c .before .before .before .enum-told19 .given .1) refl (c .before .before .week4 .ensures) (λ o. ap pos (c .before .week-number .ensures (in-week _ (c .before .before .week4 .ensures) o))) (c .small12 .ensures)
+returns-19 c = week-checked (c .before .before .enum-told19 .given .1) refl refl (λ w. ap pos (c .before .week-of .ensures w)) (c .weekly3 .ensures)
 
 -- WeekNumberFromMonday
 returns-20 : tie.Need-returns-20
 unfolding valueOf defaultWidth fillOf numberFields
-returns-20 c = answered (c .before .before .before .enum-told20 .given .1) refl (c .before .before .week5 .ensures) (λ o. ap pos (c .before .week-number2 .ensures (in-week _ (c .before .before .week5 .ensures) o))) (c .small13 .ensures)
+returns-20 c = week-checked (c .before .before .enum-told20 .given .1) refl refl (λ w. ap pos (c .before .week-of2 .ensures w)) (c .weekly4 .ensures)
 
 -- SecondsSinceEpoch
 returns-21 : tie.Need-returns-21
 unfolding valueOf defaultWidth fillOf numberFields
-returns-21 c = unchecked (c .before .before .enum-told21 .given .1) refl refl (toZ-ofZ w64 (c .before .before .before .before .args .«record» .«to_int») (omega arith)) (c .zeros3 .ensures)
+returns-21 c = unchecked (c .before .before .enum-told21 .given .1) refl refl (toZ-ofZ w64 (c .before .before .before .before .args .«record» .«to_int») (omega arith)) (c .wide3 .ensures)
 
 pub value-of-spec : {M : Type 1} → statement M
 value-of-spec =
     tie.close
     (tie.spec
-    (λ c. search needs)
-    cast-year
-    (λ c κs. search needs)
-    (λ c. search needs)
-    (λ c κs. search needs)
-    cast-zeros
-    (λ c κs. search needs)
-    (λ c. search needs)
-    cast-rem-euclid-100
-    (λ c κs. search needs)
-    (λ c κs. search needs)
-    (λ c. search needs)
-    (λ c κs. search needs)
-    (λ c κs. search needs)
-    (λ c. search needs)
-    (λ c κs. search needs)
-    (λ c κs. search needs)
-    (λ c. search needs)
-    (λ c κs. search needs)
-    (λ c κs. search needs)
-    (λ c. search needs)
-    (λ c κs. search needs)
-    (λ c. search needs)
-    (λ c κs. search needs)
-    (λ c. search needs)
-    (λ c κs. search needs)
-    (λ c κs. search needs)
-    (λ c. search needs)
-    (λ c κs. search needs)
-    (λ c κs. search needs)
-    (λ c. search needs)
-    (λ c κs. search needs)
-    (λ c κs. search needs)
-    (λ c κs. search needs)
-    (λ c. search needs)
-    (λ c κs. search needs)
-    (λ c κs. search needs)
-    (λ c κs. search needs)
-    (λ c. search needs)
-    (λ c κs. search needs)
-    (λ c κs. search needs)
-    (λ c. search needs)
-    (λ c κs. search needs)
-    (λ c κs. search needs)
-    (λ c. search needs)
-    (λ c κs. search needs)
-    (λ c κs. search needs)
-    (λ c κs. search needs)
-    (λ c. search needs)
-    (λ c κs. search needs)
-    (λ c κs. search needs)
-    (λ c. search needs)
-    (λ c κs. search needs)
-    (λ c κs. search needs)
-    (λ c κs. search needs)
-    (λ c. search needs)
-    (λ c κs. search needs)
-    (λ c κs. search needs)
-    (λ c κs. search needs)
-    (λ c κs. search needs)
-    (λ c. search needs)
-    (λ c κs. search needs)
-    (λ c κs. search needs)
-    (λ c κs. search needs)
-    (λ c. search needs)
-    (λ c κs. search needs)
-    (λ c κs. search needs)
-    (λ c κs. search needs)
-    (λ c. search needs)
-    (λ c κs. search needs)
-    (λ c κs. search needs)
-    (λ c κs. search needs)
-    (λ c. search needs)
-    (λ c κs. search needs)
+    (λ c. search needs) cast-year (λ c κs. search needs)
+    (λ c. search needs) (λ c κs. search needs) cast-wide (λ c κs. search needs)
+    (λ c. search needs) cast-rem-euclid-100 (λ c κs. search needs) (λ c κs. search needs)
+    (λ c. search needs) (λ c κs. search needs) (λ c κs. search needs)
+    (λ c. search needs) (λ c κs. search needs) (λ c κs. search needs)
+    (λ c. search needs) (λ c κs. search needs) (λ c κs. search needs)
+    (λ c. search needs) (λ c κs. search needs) (λ c. search needs) (λ c κs. search needs)
+    (λ c. search needs) (λ c κs. search needs) (λ c κs. search needs)
+    (λ c. search needs) (λ c κs. search needs) (λ c κs. search needs)
+    (λ c. search needs) (λ c κs. search needs) (λ c κs. search needs) (λ c κs. search needs)
+    (λ c. search needs) (λ c κs. search needs) (λ c κs. search needs) (λ c κs. search needs)
+    (λ c. search needs) (λ c κs. search needs) (λ c κs. search needs)
+    (λ c. search needs) (λ c κs. search needs) (λ c κs. search needs)
+    (λ c. search needs) (λ c κs. search needs) (λ c κs. search needs) (λ c κs. search needs)
+    (λ c. search needs) (λ c κs. search needs) (λ c κs. search needs)
+    (λ c. search needs) (λ c κs. search needs) (λ c κs. search needs) (λ c κs. search needs)
+    (λ c. search needs) (λ c κs. search needs) (λ c κs. search needs) (λ c κs. search needs)
+    (λ c. search needs) (λ c κs. search needs) (λ c κs. search needs)
+    (λ c. search needs) (λ c κs. search needs) (λ c κs. search needs)
+    (λ c. search needs) (λ c κs. search needs) (λ c κs. search needs)
+    (λ c. search needs) (λ c κs. search needs)
     returns
     returns-2
     returns-3

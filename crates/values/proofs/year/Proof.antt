@@ -18,14 +18,14 @@ year-width-requires c κs = search needs
 width-is : (c : tie.After-year-width) → c .year-width .result ≡ yearWidth (c .before .args .year)
 width-is c = c .year-width .ensures ∙ ap yearWidth (toZ-ofZ w64 _ (c .before .fits .year))
 
-zeros-requires : tie.Need-zeros-requires
-zeros-requires c κs = omega (arith, width-is c, year-narrow (c .before .args .year))
+wide-requires : tie.Need-wide-requires
+wide-requires c κs = omega (arith, width-is c, year-narrow (c .before .args .year))
 
 returns : tie.Need-returns
 returns c =
     let s = c .before .before in
-    subst (λ (w : ℕ). Valued (s .args .ok) (s .args .year) w false (c .zeros .result)) (width-is (c .before))
-    (renumbered (toZ-ofZ w64 _ (s .fits .year)) (c .zeros .ensures))
+    subst (λ (w : ℕ). Valued (s .args .ok) (s .args .year) w false (c .wide .result)) (width-is (c .before))
+    (renumbered (toZ-ofZ w64 _ (s .fits .year)) (c .wide .ensures))
 
 pub year-spec : {M : Type 1} → statement M
-year-spec = tie.close (tie.spec year-width-requires zeros-requires returns)
+year-spec = tie.close (tie.spec year-width-requires wide-requires returns)

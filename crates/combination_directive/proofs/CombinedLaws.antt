@@ -1,0 +1,51 @@
+-- The run of a combination, from the runs of its pad, its check and its text.
+use mathlib.Core.Path.{_≡_, refl, sym, ap, _∙_}
+use mathlib.Core.Bool.{Bool, true, false, not}
+use mathlib.Core.List.{List, [], _∷_}
+use Prim.Native.Nat.{ℕ, _≤_}
+use native.Mathlib.Nat.{zero-sub}
+use native.Mathlib.Omega.{arith}
+use lib.ListN.{length}
+use borrow.Author.Tests.{not-true, not-false}
+use Rattle.rules.specs.declared.Combination.{Combination}
+use Rattle.rules.specs.declared.Flags.{Flags}
+use Rattle.rules.specs.declared.Piece.{Piece}
+use Rattle.rules.specs.declared.Record.{Record}
+use Rattle.rules.specs.declared.Spec.the-variants.{Combination as combination}
+use Rattle.rules.specs.Event.{put, pad, Event, write, check}
+use Rattle.rules.specs.Record.{allOk}
+use Rattle.rules.specs.Writing.{padTo, combinationLength, combinationText, combinationFields, fieldsOf, leadOf, bodyOf, specEvents}
+use Rattle.text.specs.Ran.{Ran}
+use Rattle.text.specs.Room.{Room}
+use Rattle.text.proofs.RanLaws.{_then_, same-events, said, told, checks-hold, stopped}
+use Rattle.printing.specs.Plain.{plainPiece}
+use Rattle.combination_directive.specs.Combined.{Combined}
+
+short : {l : List ℕ} {room : ℕ} → Room l room → length l ≤ 65536
+short g = omega (arith, g .within, g .small)
+
+-- ## The check and the text
+
+module _ (c : Combination) (r : Record) {ok : Bool} (checked : (zone : List ℕ) → ok ≡ allOk (combinationFields c) r zone) where
+  pub failed : {room : ℕ} {upper : Bool} {l : List ℕ} {n n′ : ℕ} → not ok ≡ true → Room l room → ((limit room : ℕ) (l : List ℕ) → length l ≤ 65536 → Ran limit room (check false 1 ∷ []) l n l n′) → Combined room c upper r l n l n′
+  failed t g w = λ limit f zone e. told (sym (not-true ok t) ∙ checked zone) (stopped (short g) (w limit _ _ (short g)))
+
+  pub written : {room : ℕ} {upper : Bool} {t l l′ : List ℕ} {n n′ : ℕ} → not ok ≡ false → ((f : Flags) → f .upper ≡ upper → t ≡ combinationText c f r) → ((limit : ℕ) → Ran limit room (write (put t) ∷ []) l n l′ n′) → Combined room c upper r l n l′ n′
+  written t q w = λ limit f zone e. told (sym (not-false ok t) ∙ checked zone) (checks-hold (said (q f e) (w limit)))
+
+-- a combination that is known
+pub known : (r : Record) {c d : Combination} {room : ℕ} {upper : Bool} {l l′ : List ℕ} {n n′ : ℕ} → c ≡ d → Combined room d upper r l n l′ n′ → Combined room c upper r l n l′ n′
+known r e w = λ limit f zone u. same-events (ap (λ (x : Combination). check (allOk (combinationFields x) r zone) 1 ∷ write (put (combinationText x f r)) ∷ []) (sym e)) (w limit f zone u)
+
+-- ## The pad in front
+
+module _ {limit room : ℕ} (c : Combination) (r : Record) where
+  lead : (p : Piece) {es : List Event} {l l′ l″ : List ℕ} {n m n′ : ℕ} → es ≡ write (padTo p (combinationLength c (r .year))) ∷ [] → Ran limit room es l n l′ m → Combined room c (p .flags .upper) r l′ m l″ n′ → (zone : List ℕ) → Ran limit room (specEvents (combination c) p r zone) l n l″ n′
+  unfolding specEvents leadOf fieldsOf bodyOf
+  lead p e v w zone = same-events e v then w limit (p .flags) zone refl
+
+  pub padded : (p : Piece) {k : ℕ} {l l′ l″ : List ℕ} {n m n′ : ℕ} → k ≡ combinationLength c (r .year) → Ran limit room (write (padTo p k) ∷ []) l n l′ m → Combined room c (p .flags .upper) r l′ m l″ n′ → (zone : List ℕ) → Ran limit room (specEvents (combination c) p r zone) l n l″ n′
+  padded p e v w = lead p (ap (λ (k : ℕ). write (padTo p k) ∷ []) e) v w
+
+  pub plainly : {l l′ l″ : List ℕ} {n m n′ : ℕ} → Ran limit room (write (pad 32 0) ∷ []) l n l′ m → Combined room c false r l′ m l″ n′ → (zone : List ℕ) → Ran limit room (specEvents (combination c) (plainPiece (combination c)) r zone) l n l″ n′
+  plainly v w = lead (plainPiece (combination c)) (ap (λ (k : ℕ). write (pad 32 k) ∷ []) (sym (zero-sub (combinationLength c (r .year))))) v w

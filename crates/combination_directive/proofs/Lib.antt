@@ -1,0 +1,4 @@
+pub mod RangeLaws
+pub mod TextLaws
+pub mod LengthLaws
+pub mod CombinedLaws

@@ -1,0 +1,100 @@
+-- The fields checked, and six digits put.
+use mathlib.Core.Path.{_≡_, ap, _∙_}
+use mathlib.Core.List.{[], _∷_, flatten}
+use Prim.Native.Nat.{_<_}
+use native.Mathlib.Omega.{arith}
+use lib.IntN.{ℤ}
+use Rattle.rules.specs.declared.Combination.the-variants.{CombinationDate}
+use Rattle.rules.specs.Decimal.{two, floorMod}
+use Rattle.rules.specs.Record.{month, day}
+use Rattle.rules.specs.Writing.{combinationFields}
+use Rattle.rules.proofs.FloorLaws.{mod-below}
+use Rattle.numbers.proofs.Signed.{widened}
+use Rattle.values.proofs.Laws.{widens}
+use Rattle.combination_directive.proofs.RangeLaws.{Each, in-range}
+use Rattle.combination_directive.proofs.TextLaws.{pair, date-text}
+use Rattle.combination_directive.proofs.CombinedLaws.{failed, written}
+use borrow.Author.Needs.{needs}
+use Rattle.combination_directive.proofs.date.Statement.{statement}
+use Rattle.combination_directive.proofs.date.Tie as tie
+
+date-requires : tie.Need-date-requires
+date-requires c κs = search needs
+
+checked-requires : tie.Need-checked-requires
+checked-requires c κs = search needs
+
+ranges : (c : tie.Else1) → Each (month ∷ day ∷ []) (c .before .before .before .args .«record»)
+ranges c = in-range _ _ (c .before .date .ensures []) (c .if1 .left)
+
+returns : tie.Need-returns
+unfolding combinationFields
+returns c = λ upper. failed CombinationDate _ (c .before .before .date .ensures) (c .before .if1 .taken) (c .before .before .before .before .pre) (c .checked .ensures)
+
+cast-rem-euclid-100 : tie.Need-cast-rem-euclid-100
+cast-rem-euclid-100 c = widens (c .before .before .before .before .before .args .«record» .year) (search needs)
+
+rem-euclid-100-requires : tie.Need-rem-euclid-100-requires
+rem-euclid-100-requires c κs = search needs
+
+year-is : (c : tie.After-rem-euclid-100) → c .rem-euclid-100 .result ≡ floorMod (c .before .before .before .before .before .before .args .«record» .year) 100
+year-is c = c .rem-euclid-100 .ensures ∙ ap (λ (y : ℤ). floorMod y 100) (widened (c .before .before .before .before .before .before .args .«record» .year) (search needs))
+
+below : (c : tie.After-rem-euclid-100) → c .rem-euclid-100 .result < 100
+below c = omega (arith, year-is c, mod-below (c .before .before .before .before .before .before .args .«record» .year) 100 (omega arith))
+
+tens-requires : tie.Need-tens-requires
+tens-requires c κs = omega (arith, ranges (c .before .before .before))
+
+ones-requires : tie.Need-ones-requires
+ones-requires c κs = search needs
+
+tens-requires-2 : tie.Need-tens-requires-2
+tens-requires-2 c κs = omega (arith, ranges (c .before .before .before .before .before))
+
+ones-requires-2 : tie.Need-ones-requires-2
+ones-requires-2 c κs = search needs
+
+tens-requires-3 : tie.Need-tens-requires-3
+tens-requires-3 c κs = below (c .before .before .before .before)
+
+ones-requires-3 : tie.Need-ones-requires-3
+ones-requires-3 c κs = search needs
+
+slice-aggregate-put : tie.Need-slice-aggregate-put
+slice-aggregate-put c = search needs
+
+put-requires : tie.Need-put-requires
+put-requires c κs = search needs
+
+same-length : tie.Need-same-length
+same-length c = search needs
+
+returns-2 : tie.Need-returns-2
+unfolding combinationFields flatten
+returns-2 c =
+    let s = c .before .before .before .before .before .before .before .before .before .before .before .before .before .before .before .before .before in
+    let k = ranges (c .before .before .before .before .before .before .before .before .before .before .before .before .before .before) in
+    λ upper. written CombinationDate _ (c .before .before .before .before .before .before .before .before .before .before .before .before .before .before .before .date .ensures) (c .before .before .before .before .before .before .before .before .before .before .before .before .before .before .if1 .left)
+    (λ f e. date-text f (s .args .«record») (pair _ (omega (arith, k)) (c .before .before .before .before .before .before .before .before .before .before .tens .ensures) (c .before .before .before .before .before .before .before .before .before .ones .ensures)) (pair _ (omega (arith, k)) (c .before .before .before .before .before .before .before .before .tens2 .ensures) (c .before .before .before .before .before .before .before .ones2 .ensures)) (pair _ (below (c .before .before .before .before .before .before .before .before .before .before .before)) (c .before .before .before .before .before .before .tens3 .ensures) (c .before .before .before .before .before .ones3 .ensures) ∙ ap two (year-is (c .before .before .before .before .before .before .before .before .before .before .before))))
+    (c .before .before .put .ensures)
+
+pub date-spec : {M : Type 1} → statement M
+date-spec =
+    tie.close
+    (tie.spec
+    date-requires
+    checked-requires
+    returns
+    cast-rem-euclid-100
+    rem-euclid-100-requires
+    tens-requires
+    ones-requires
+    tens-requires-2
+    ones-requires-2
+    tens-requires-3
+    ones-requires-3
+    slice-aggregate-put
+    put-requires
+    same-length
+    returns-2)

@@ -1,0 +1,104 @@
+-- The fields checked; the names, the day, the time and the year put.
+use mathlib.Core.Path.{ap}
+use mathlib.Core.List.{[], _∷_, flatten}
+use native.Mathlib.Omega.{arith}
+use mir.Syntax.{w32}
+use mir.ValLaws.{toZ-ofZ}
+use Rattle.rules.specs.declared.Combination.the-variants.{CombinationDateTime}
+use Rattle.rules.specs.Record.{month, day, hour, minute, second, weekday}
+use Rattle.rules.specs.Writing.{yearText, combinationFields}
+use Rattle.text.proofs.RanLaws.{_then_, joined}
+use Rattle.combination_directive.proofs.RangeLaws.{Each, in-range}
+use Rattle.combination_directive.proofs.TextLaws.{pair, spaced-pair, date-time-text}
+use Rattle.combination_directive.proofs.CombinedLaws.{failed, written}
+use borrow.Author.Needs.{needs}
+use Rattle.combination_directive.proofs.date_time.Statement.{statement}
+use Rattle.combination_directive.proofs.date_time.Tie as tie
+
+date-time-requires : tie.Need-date-time-requires
+date-time-requires c κs = search needs
+
+checked-requires : tie.Need-checked-requires
+checked-requires c κs = search needs
+
+ranges : (c : tie.Else1) → Each (weekday ∷ month ∷ day ∷ hour ∷ minute ∷ second ∷ []) (c .before .before .before .args .«record»)
+unfolding combinationFields
+ranges c = in-range _ _ (c .before .date-time .ensures []) (c .if1 .left)
+
+returns : tie.Need-returns
+unfolding combinationFields
+returns c = failed CombinationDateTime _ (c .before .before .date-time .ensures) (c .before .if1 .taken) (c .before .before .before .before .pre) (c .checked .ensures)
+
+day-three-requires : tie.Need-day-three-requires
+day-three-requires c κs = ranges c .0
+
+month-three-requires : tie.Need-month-three-requires
+month-three-requires c κs = ranges (c .before) .1 .0
+
+spaced-tens-requires : tie.Need-spaced-tens-requires
+spaced-tens-requires c κs = omega (arith, ranges (c .before .before))
+
+ones-requires : tie.Need-ones-requires
+ones-requires c κs = search needs
+
+tens-requires : tie.Need-tens-requires
+tens-requires c κs = omega (arith, ranges (c .before .before .before .before))
+
+ones-requires-2 : tie.Need-ones-requires-2
+ones-requires-2 c κs = search needs
+
+tens-requires-2 : tie.Need-tens-requires-2
+tens-requires-2 c κs = omega (arith, ranges (c .before .before .before .before .before .before))
+
+ones-requires-3 : tie.Need-ones-requires-3
+ones-requires-3 c κs = search needs
+
+tens-requires-3 : tie.Need-tens-requires-3
+tens-requires-3 c κs = omega (arith, ranges (c .before .before .before .before .before .before .before .before))
+
+ones-requires-4 : tie.Need-ones-requires-4
+ones-requires-4 c κs = search needs
+
+slice-aggregate-put : tie.Need-slice-aggregate-put
+slice-aggregate-put c = search needs
+
+put-requires : tie.Need-put-requires
+put-requires c κs = search needs
+
+put-year-requires : tie.Need-put-year-requires
+put-year-requires c κs = search needs
+
+same-length : tie.Need-same-length
+same-length c = search needs
+
+returns-2 : tie.Need-returns-2
+unfolding combinationFields flatten
+returns-2 c =
+    let s = c .before .before .before .before .before .before .before .before .before .before .before .before .before .before .before .before .before .before .before .before .before .before .before in
+    let k = ranges (c .before .before .before .before .before .before .before .before .before .before .before .before .before .before .before .before .before .before .before .before) in
+    written CombinationDateTime _ (c .before .before .before .before .before .before .before .before .before .before .before .before .before .before .before .before .before .before .before .before .before .date-time .ensures) (c .before .before .before .before .before .before .before .before .before .before .before .before .before .before .before .before .before .before .before .before .if1 .left)
+    (λ f e. date-time-text f (s .args .«record») e (c .before .before .before .before .before .before .before .before .before .before .before .before .before .before .before .before .before .before .before .day-three .ensures) (c .before .before .before .before .before .before .before .before .before .before .before .before .before .before .before .before .before .before .month-three .ensures) (spaced-pair _ (omega (arith, k)) (c .before .before .before .before .before .before .before .before .before .before .before .before .before .before .before .before .before .spaced-tens .ensures) (c .before .before .before .before .before .before .before .before .before .before .before .before .before .before .before .before .ones .ensures)) (pair _ (omega (arith, k)) (c .before .before .before .before .before .before .before .before .before .before .before .before .before .before .before .tens .ensures) (c .before .before .before .before .before .before .before .before .before .before .before .before .before .before .ones2 .ensures)) (pair _ (omega (arith, k)) (c .before .before .before .before .before .before .before .before .before .before .before .before .before .tens2 .ensures) (c .before .before .before .before .before .before .before .before .before .before .before .before .ones3 .ensures)) (pair _ (omega (arith, k)) (c .before .before .before .before .before .before .before .before .before .before .before .tens3 .ensures) (c .before .before .before .before .before .before .before .before .before .before .ones4 .ensures)) (ap yearText (toZ-ofZ w32 (s .args .«record» .year) (search needs))))
+    (λ limit. joined (c .before .before .before .before .before .before .before .put .ensures limit then c .before .before .put-year .ensures limit))
+
+pub date-time-spec : {M : Type 1} → statement M
+date-time-spec =
+    tie.close
+    (tie.spec
+    date-time-requires
+    checked-requires
+    returns
+    day-three-requires
+    month-three-requires
+    spaced-tens-requires
+    ones-requires
+    tens-requires
+    ones-requires-2
+    tens-requires-2
+    ones-requires-3
+    tens-requires-3
+    ones-requires-4
+    slice-aggregate-put
+    put-requires
+    put-year-requires
+    same-length
+    returns-2)

@@ -1,0 +1,70 @@
+-- The fields checked, and four digits put.
+use mathlib.Core.List.{[], _∷_, flatten}
+use native.Mathlib.Omega.{arith}
+use Rattle.rules.specs.declared.Combination.the-variants.{CombinationHourMinute24h}
+use Rattle.rules.specs.Record.{hour, minute}
+use Rattle.rules.specs.Writing.{combinationFields}
+use Rattle.combination_directive.proofs.RangeLaws.{Each, in-range}
+use Rattle.combination_directive.proofs.TextLaws.{pair, hour-minute24h-text}
+use Rattle.combination_directive.proofs.CombinedLaws.{failed, written}
+use borrow.Author.Needs.{needs}
+use Rattle.combination_directive.proofs.hour_minute24h.Statement.{statement}
+use Rattle.combination_directive.proofs.hour_minute24h.Tie as tie
+
+hour-and-minute-requires : tie.Need-hour-and-minute-requires
+hour-and-minute-requires c κs = search needs
+
+checked-requires : tie.Need-checked-requires
+checked-requires c κs = search needs
+
+ranges : (c : tie.Else1) → Each (hour ∷ minute ∷ []) (c .before .before .before .args .«record»)
+ranges c = in-range _ _ (c .before .hour-and-minute .ensures []) (c .if1 .left)
+
+returns : tie.Need-returns
+unfolding combinationFields
+returns c = λ upper. failed CombinationHourMinute24h _ (c .before .before .hour-and-minute .ensures) (c .before .if1 .taken) (c .before .before .before .before .pre) (c .checked .ensures)
+
+tens-requires : tie.Need-tens-requires
+tens-requires c κs = omega (arith, ranges c)
+
+ones-requires : tie.Need-ones-requires
+ones-requires c κs = search needs
+
+tens-requires-2 : tie.Need-tens-requires-2
+tens-requires-2 c κs = omega (arith, ranges (c .before .before))
+
+ones-requires-2 : tie.Need-ones-requires-2
+ones-requires-2 c κs = search needs
+
+slice-aggregate-put : tie.Need-slice-aggregate-put
+slice-aggregate-put c = search needs
+
+put-requires : tie.Need-put-requires
+put-requires c κs = search needs
+
+same-length : tie.Need-same-length
+same-length c = search needs
+
+returns-2 : tie.Need-returns-2
+unfolding combinationFields flatten
+returns-2 c =
+    let k = ranges (c .before .before .before .before .before .before .before .before .before) in
+    λ upper. written CombinationHourMinute24h _ (c .before .before .before .before .before .before .before .before .before .before .hour-and-minute .ensures) (c .before .before .before .before .before .before .before .before .before .if1 .left)
+    (λ f e. hour-minute24h-text f (c .before .before .before .before .before .before .before .before .before .before .before .before .args .«record») (pair _ (omega (arith, k)) (c .before .before .before .before .before .before .before .before .tens .ensures) (c .before .before .before .before .before .before .before .ones .ensures)) (pair _ (omega (arith, k)) (c .before .before .before .before .before .before .tens2 .ensures) (c .before .before .before .before .before .ones2 .ensures)))
+    (c .before .before .put .ensures)
+
+pub hour-minute24h-spec : {M : Type 1} → statement M
+hour-minute24h-spec =
+    tie.close
+    (tie.spec
+    hour-and-minute-requires
+    checked-requires
+    returns
+    tens-requires
+    ones-requires
+    tens-requires-2
+    ones-requires-2
+    slice-aggregate-put
+    put-requires
+    same-length
+    returns-2)

@@ -1,0 +1,79 @@
+-- The fields checked; the year and four digits put.
+use mathlib.Core.Path.{ap}
+use mathlib.Core.List.{[], _∷_, flatten}
+use native.Mathlib.Omega.{arith}
+use mir.Syntax.{w32}
+use mir.ValLaws.{toZ-ofZ}
+use Rattle.rules.specs.declared.Combination.the-variants.{CombinationIso8601}
+use Rattle.rules.specs.Record.{month, day}
+use Rattle.rules.specs.Writing.{yearText, combinationFields}
+use Rattle.text.proofs.RanLaws.{_then_, joined}
+use Rattle.combination_directive.proofs.RangeLaws.{Each, in-range}
+use Rattle.combination_directive.proofs.TextLaws.{pair, iso8601-text}
+use Rattle.combination_directive.proofs.CombinedLaws.{failed, written}
+use borrow.Author.Needs.{needs}
+use Rattle.combination_directive.proofs.iso8601.Statement.{statement}
+use Rattle.combination_directive.proofs.iso8601.Tie as tie
+
+date-requires : tie.Need-date-requires
+date-requires c κs = search needs
+
+checked-requires : tie.Need-checked-requires
+checked-requires c κs = search needs
+
+ranges : (c : tie.Else1) → Each (month ∷ day ∷ []) (c .before .before .before .args .«record»)
+ranges c = in-range _ _ (c .before .date .ensures []) (c .if1 .left)
+
+returns : tie.Need-returns
+unfolding combinationFields
+returns c = λ upper. failed CombinationIso8601 _ (c .before .before .date .ensures) (c .before .if1 .taken) (c .before .before .before .before .pre) (c .checked .ensures)
+
+tens-requires : tie.Need-tens-requires
+tens-requires c κs = omega (arith, ranges c)
+
+ones-requires : tie.Need-ones-requires
+ones-requires c κs = search needs
+
+tens-requires-2 : tie.Need-tens-requires-2
+tens-requires-2 c κs = omega (arith, ranges (c .before .before))
+
+ones-requires-2 : tie.Need-ones-requires-2
+ones-requires-2 c κs = search needs
+
+put-year-requires : tie.Need-put-year-requires
+put-year-requires c κs = search needs
+
+slice-aggregate-put : tie.Need-slice-aggregate-put
+slice-aggregate-put c = search needs
+
+put-requires : tie.Need-put-requires
+put-requires c κs = search needs
+
+same-length : tie.Need-same-length
+same-length c = search needs
+
+returns-2 : tie.Need-returns-2
+unfolding combinationFields flatten
+returns-2 c =
+    let s = c .before .before .before .before .before .before .before .before .before .before .before .before .before .before .before .before .before in
+    let k = ranges (c .before .before .before .before .before .before .before .before .before .before .before .before .before .before) in
+    λ upper. written CombinationIso8601 _ (c .before .before .before .before .before .before .before .before .before .before .before .before .before .before .before .date .ensures) (c .before .before .before .before .before .before .before .before .before .before .before .before .before .before .if1 .left)
+    (λ f e. iso8601-text f (s .args .«record») (ap yearText (toZ-ofZ w32 (s .args .«record» .year) (search needs))) (pair _ (omega (arith, k)) (c .before .before .before .before .before .before .before .before .before .before .before .before .before .tens .ensures) (c .before .before .before .before .before .before .before .before .before .before .before .before .ones .ensures)) (pair _ (omega (arith, k)) (c .before .before .before .before .before .before .before .before .before .before .before .tens2 .ensures) (c .before .before .before .before .before .before .before .before .before .before .ones2 .ensures)))
+    (λ limit. joined (c .before .before .before .before .before .before .before .put-year .ensures limit then c .before .before .put .ensures limit))
+
+pub iso8601-spec : {M : Type 1} → statement M
+iso8601-spec =
+    tie.close
+    (tie.spec
+    date-requires
+    checked-requires
+    returns
+    tens-requires
+    ones-requires
+    tens-requires-2
+    ones-requires-2
+    put-year-requires
+    slice-aggregate-put
+    put-requires
+    same-length
+    returns-2)

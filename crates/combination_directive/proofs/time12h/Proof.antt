@@ -1,0 +1,93 @@
+-- The fields checked, and six digits and a letter put.
+use mathlib.Core.Path.{_≡_, ap, _∙_}
+use mathlib.Core.List.{[], _∷_, flatten}
+use Prim.Native.Nat.{_<_}
+use native.Mathlib.Omega.{arith}
+use Rattle.rules.specs.declared.Combination.the-variants.{CombinationTime12h}
+use Rattle.rules.specs.Decimal.{two}
+use Rattle.rules.specs.Record.{hour, minute, second}
+use Rattle.rules.specs.Writing.{combinationFields}
+use Rattle.combination_directive.proofs.RangeLaws.{Each, in-range}
+use Rattle.combination_directive.proofs.TextLaws.{hour12-below, pair, halves, time12h-text}
+use Rattle.combination_directive.proofs.CombinedLaws.{failed, written}
+use borrow.Author.Needs.{needs}
+use Rattle.combination_directive.proofs.time12h.Statement.{statement}
+use Rattle.combination_directive.proofs.time12h.Tie as tie
+
+clock-requires : tie.Need-clock-requires
+clock-requires c κs = search needs
+
+checked-requires : tie.Need-checked-requires
+checked-requires c κs = search needs
+
+ranges : (c : tie.Else1) → Each (hour ∷ minute ∷ second ∷ []) (c .before .before .before .args .«record»)
+ranges c = in-range _ _ (c .before .clock .ensures []) (c .if1 .left)
+
+returns : tie.Need-returns
+unfolding combinationFields
+returns c = λ upper. failed CombinationTime12h _ (c .before .before .clock .ensures) (c .before .if1 .taken) (c .before .before .before .before .pre) (c .checked .ensures)
+
+hour12-requires : tie.Need-hour12-requires
+hour12-requires c κs = search needs
+
+below : (c : tie.After-hour12) → c .hour12 .result < 100
+below c = omega (arith, c .hour12 .ensures, hour12-below (c .before .before .before .before .args .«record» .hour))
+
+tens-requires : tie.Need-tens-requires
+tens-requires c κs = below c
+
+ones-requires : tie.Need-ones-requires
+ones-requires c κs = search needs
+
+tens-requires-2 : tie.Need-tens-requires-2
+tens-requires-2 c κs = omega (arith, ranges (c .before .before .before))
+
+ones-requires-2 : tie.Need-ones-requires-2
+ones-requires-2 c κs = search needs
+
+tens-requires-3 : tie.Need-tens-requires-3
+tens-requires-3 c κs = omega (arith, ranges (c .before .before .before .before .before))
+
+ones-requires-3 : tie.Need-ones-requires-3
+ones-requires-3 c κs = search needs
+
+half-requires : tie.Need-half-requires
+half-requires c κs = search needs
+
+slice-aggregate-put : tie.Need-slice-aggregate-put
+slice-aggregate-put c = search needs
+
+put-requires : tie.Need-put-requires
+put-requires c κs = search needs
+
+same-length : tie.Need-same-length
+same-length c = search needs
+
+returns-2 : tie.Need-returns-2
+unfolding combinationFields flatten
+returns-2 c =
+    let s = c .before .before .before .before .before .before .before .before .before .before .before .before .before .before .before .before in
+    let k = ranges (c .before .before .before .before .before .before .before .before .before .before .before .before .before) in
+    λ upper. written CombinationTime12h _ (c .before .before .before .before .before .before .before .before .before .before .before .before .before .before .clock .ensures) (c .before .before .before .before .before .before .before .before .before .before .before .before .before .if1 .left)
+    (λ f e. time12h-text f (s .args .«record») (pair _ (below (c .before .before .before .before .before .before .before .before .before .before .before .before)) (c .before .before .before .before .before .before .before .before .before .before .before .tens .ensures) (c .before .before .before .before .before .before .before .before .before .before .ones .ensures) ∙ ap two (c .before .before .before .before .before .before .before .before .before .before .before .before .hour12 .ensures)) (pair _ (omega (arith, k)) (c .before .before .before .before .before .before .before .before .before .tens2 .ensures) (c .before .before .before .before .before .before .before .before .ones2 .ensures)) (pair _ (omega (arith, k)) (c .before .before .before .before .before .before .before .tens3 .ensures) (c .before .before .before .before .before .before .ones3 .ensures)) (halves (s .args .«record» .hour) (c .before .before .before .before .before .half .ensures)))
+    (c .before .before .put .ensures)
+
+pub time12h-spec : {M : Type 1} → statement M
+time12h-spec =
+    tie.close
+    (tie.spec
+    clock-requires
+    checked-requires
+    returns
+    hour12-requires
+    tens-requires
+    ones-requires
+    tens-requires-2
+    ones-requires-2
+    tens-requires-3
+    ones-requires-3
+    half-requires
+    slice-aggregate-put
+    put-requires
+    same-length
+    returns-2)

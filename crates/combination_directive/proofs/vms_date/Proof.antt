@@ -1,0 +1,80 @@
+-- The fields checked; the day, the raised month and the year put.
+use mathlib.Core.Path.{ap}
+use mathlib.Core.List.{[], _∷_, flatten}
+use native.Mathlib.Omega.{arith}
+use lib.IntN.{ℤ}
+use Rattle.rules.specs.declared.Combination.the-variants.{CombinationVmsDate}
+use Rattle.rules.specs.Record.{month, day}
+use Rattle.rules.specs.Writing.{vmsYear, combinationFields}
+use Rattle.text.proofs.RanLaws.{_then_, joined}
+use Rattle.numbers.proofs.Signed.{widened}
+use Rattle.values.proofs.Laws.{widens}
+use Rattle.combination_directive.proofs.RangeLaws.{Each, in-range}
+use Rattle.combination_directive.proofs.TextLaws.{spaced-pair, vms-date-text}
+use Rattle.combination_directive.proofs.CombinedLaws.{failed, written}
+use borrow.Author.Needs.{needs}
+use Rattle.combination_directive.proofs.vms_date.Statement.{statement}
+use Rattle.combination_directive.proofs.vms_date.Tie as tie
+
+date-requires : tie.Need-date-requires
+date-requires c κs = search needs
+
+checked-requires : tie.Need-checked-requires
+checked-requires c κs = search needs
+
+ranges : (c : tie.Else1) → Each (month ∷ day ∷ []) (c .before .before .before .args .«record»)
+ranges c = in-range _ _ (c .before .date .ensures []) (c .if1 .left)
+
+returns : tie.Need-returns
+unfolding combinationFields
+returns c = λ upper. failed CombinationVmsDate _ (c .before .before .date .ensures) (c .before .if1 .taken) (c .before .before .before .before .pre) (c .checked .ensures)
+
+month-three-requires : tie.Need-month-three-requires
+month-three-requires c κs = ranges c .0
+
+spaced-tens-requires : tie.Need-spaced-tens-requires
+spaced-tens-requires c κs = omega (arith, ranges (c .before))
+
+ones-requires : tie.Need-ones-requires
+ones-requires c κs = search needs
+
+slice-aggregate-put : tie.Need-slice-aggregate-put
+slice-aggregate-put c = search needs
+
+put-requires : tie.Need-put-requires
+put-requires c κs = search needs
+
+cast-put-decimal : tie.Need-cast-put-decimal
+cast-put-decimal c = widens (c .before .before .before .before .before .before .before .before .before .before .before .before .before .before .args .«record» .year) (search needs)
+
+put-decimal-requires : tie.Need-put-decimal-requires
+put-decimal-requires c κs = search needs
+
+same-length : tie.Need-same-length
+same-length c = search needs
+
+returns-2 : tie.Need-returns-2
+unfolding combinationFields flatten
+returns-2 c =
+    let s = c .before .before .before .before .before .before .before .before .before .before .before .before .before .before .before .before .before in
+    let k = ranges (c .before .before .before .before .before .before .before .before .before .before .before .before .before .before) in
+    λ upper. written CombinationVmsDate _ (c .before .before .before .before .before .before .before .before .before .before .before .before .before .before .before .date .ensures) (c .before .before .before .before .before .before .before .before .before .before .before .before .before .before .if1 .left)
+    (λ f e. vms-date-text f (s .args .«record») (spaced-pair _ (omega (arith, k)) (c .before .before .before .before .before .before .before .before .before .before .before .before .spaced-tens .ensures) (c .before .before .before .before .before .before .before .before .before .before .before .ones .ensures)) (c .before .before .before .before .before .before .before .before .before .before .before .before .before .month-three .ensures) (ap vmsYear (widened (s .args .«record» .year) (search needs))))
+    (λ limit. joined (c .before .before .before .before .before .before .before .before .put .ensures limit then c .before .before .put-decimal .ensures limit))
+
+pub vms-date-spec : {M : Type 1} → statement M
+vms-date-spec =
+    tie.close
+    (tie.spec
+    date-requires
+    checked-requires
+    returns
+    month-three-requires
+    spaced-tens-requires
+    ones-requires
+    slice-aggregate-put
+    put-requires
+    cast-put-decimal
+    put-decimal-requires
+    same-length
+    returns-2)

@@ -1,0 +1,280 @@
+// Ports the arms of `Piece::fmt` of format/mod.rs that write combinations: padding first, then the check, then one text.
+ghost use mathlib.Core.Path.{_≡_};
+ghost use mathlib.Core.Bool.{Bool};
+ghost use mathlib.Core.List.{List, [], _∷_};
+ghost use Prim.Native.Nat.{ℕ, _≤_, _<_};
+ghost use lib.ListN.{length};
+ghost use Rattle.rules.specs.declared.Combination.the-variants as kind;
+ghost use Rattle.rules.specs.declared.Spec.the-variants as spec;
+ghost use Rattle.rules.specs.Record.{allOk, hour, minute};
+ghost use Rattle.rules.specs.Writing.{yearText, combinationLength, specEvents};
+ghost use Rattle.text.specs.Ran.{Ran};
+ghost use Rattle.text.specs.Room.{Room};
+ghost use Rattle.printing.specs.Plain.{plainPiece};
+ghost use Rattle.combination_directive.specs.Combined.{Combined, halfOf, spacedTens};
+use names::calendar::day_three;
+use names::calendar::month_three;
+use numbers::ones;
+use numbers::tens;
+use printing::put_decimal;
+use printing::put_year;
+use printing::write_padding;
+use printing::year_length;
+use rules::Combination;
+use rules::Piece;
+use rules::Record;
+use text::checked;
+use text::put;
+use values::year_width;
+
+// The tens of a number that is written in two places, with a space for no tens.
+fn spaced_tens(v: u8) -> u8
+    requires { ⌜ v < 100 ⌝ }
+    ensures { λ r. ⌜ r ≡ spacedTens v ⌝ }
+{
+    if v < 10 { b' ' } else { tens(v) }
+}
+
+fn date_time(out: &mut [u8], at: usize, room: usize, record: Record, upper: bool) -> usize
+    requires { ⌜ Room (now out) room ⌝ }
+    ensures { λ r. ⌜ Combined room kind.CombinationDateTime upper «record» (now (out .entry)) at (now (out .exit)) r ⌝ }
+{
+    if !fields::date_time(record) {
+        return checked(at, false, 1);
+    }
+    let a = day_three(record.day_of_week, upper);
+    let b = month_three(record.month, upper);
+    let d = record.day;
+    let h = record.hour;
+    let m = record.minute;
+    let s = record.second;
+    let text = [
+        a.0,
+        a.1,
+        a.2,
+        b' ',
+        b.0,
+        b.1,
+        b.2,
+        b' ',
+        spaced_tens(d),
+        ones(d),
+        b' ',
+        tens(h),
+        ones(h),
+        b':',
+        tens(m),
+        ones(m),
+        b':',
+        tens(s),
+        ones(s),
+        b' ',
+    ];
+    let next = put(out, at, room, &text);
+    put_year(out, next, room, record.year)
+}
+
+fn date(out: &mut [u8], at: usize, room: usize, record: Record) -> usize
+    requires { ⌜ Room (now out) room ⌝ }
+    ensures { λ r. ⌜ ((upper : Bool) → Combined room kind.CombinationDate upper «record» (now (out .entry)) at (now (out .exit)) r) ⌝ }
+{
+    if !fields::date(record) {
+        return checked(at, false, 1);
+    }
+    let m = record.month;
+    let d = record.day;
+    let y = numbers::rem_euclid_100(record.year as i64);
+    let text = [
+        tens(m),
+        ones(m),
+        b'/',
+        tens(d),
+        ones(d),
+        b'/',
+        tens(y),
+        ones(y),
+    ];
+    put(out, at, room, &text)
+}
+
+fn iso8601(out: &mut [u8], at: usize, room: usize, record: Record) -> usize
+    requires { ⌜ Room (now out) room ⌝ }
+    ensures { λ r. ⌜ ((upper : Bool) → Combined room kind.CombinationIso8601 upper «record» (now (out .entry)) at (now (out .exit)) r) ⌝ }
+{
+    if !fields::date(record) {
+        return checked(at, false, 1);
+    }
+    let m = record.month;
+    let d = record.day;
+    let text = [b'-', tens(m), ones(m), b'-', tens(d), ones(d)];
+    let next = put_year(out, at, room, record.year);
+    put(out, next, room, &text)
+}
+
+// Its year has width 4 for negatives too.
+fn vms_date(out: &mut [u8], at: usize, room: usize, record: Record) -> usize
+    requires { ⌜ Room (now out) room ⌝ }
+    ensures { λ r. ⌜ ((upper : Bool) → Combined room kind.CombinationVmsDate upper «record» (now (out .entry)) at (now (out .exit)) r) ⌝ }
+{
+    if !fields::date(record) {
+        return checked(at, false, 1);
+    }
+    let d = record.day;
+    let b = month_three(record.month, true);
+    let text = [spaced_tens(d), ones(d), b'-', b.0, b.1, b.2, b'-'];
+    let next = put(out, at, room, &text);
+    put_decimal(out, next, room, record.year as i64, 4, true)
+}
+
+// The first letter of AM or PM.
+fn half(hour: u8) -> u8
+    ensures { λ r. ⌜ r ≡ halfOf hour ⌝ }
+{
+    if hour < 12 { b'A' } else { b'P' }
+}
+
+fn time12h(out: &mut [u8], at: usize, room: usize, record: Record) -> usize
+    requires { ⌜ Room (now out) room ⌝ }
+    ensures { λ r. ⌜ ((upper : Bool) → Combined room kind.CombinationTime12h upper «record» (now (out .entry)) at (now (out .exit)) r) ⌝ }
+{
+    if !fields::clock(record) {
+        return checked(at, false, 1);
+    }
+    let h = values::hour12(record.hour);
+    let m = record.minute;
+    let s = record.second;
+    let text = [
+        tens(h),
+        ones(h),
+        b':',
+        tens(m),
+        ones(m),
+        b':',
+        tens(s),
+        ones(s),
+        b' ',
+        half(record.hour),
+        b'M',
+    ];
+    put(out, at, room, &text)
+}
+
+fn hour_and_minute(record: Record) -> bool
+    ensures { λ r. ⌜ ((zone : List ℕ) → r ≡ allOk (hour ∷ minute ∷ []) «record» zone) ⌝ }
+{
+    fields::hour(record) && fields::minute(record)
+}
+
+fn hour_minute24h(out: &mut [u8], at: usize, room: usize, record: Record) -> usize
+    requires { ⌜ Room (now out) room ⌝ }
+    ensures { λ r. ⌜ ((upper : Bool) → Combined room kind.CombinationHourMinute24h upper «record» (now (out .entry)) at (now (out .exit)) r) ⌝ }
+{
+    if !hour_and_minute(record) {
+        return checked(at, false, 1);
+    }
+    let h = record.hour;
+    let m = record.minute;
+    let text = [tens(h), ones(h), b':', tens(m), ones(m)];
+    put(out, at, room, &text)
+}
+
+fn time24h(out: &mut [u8], at: usize, room: usize, record: Record) -> usize
+    requires { ⌜ Room (now out) room ⌝ }
+    ensures { λ r. ⌜ ((upper : Bool) → Combined room kind.CombinationTime24h upper «record» (now (out .entry)) at (now (out .exit)) r) ⌝ }
+{
+    if !fields::clock(record) {
+        return checked(at, false, 1);
+    }
+    let h = record.hour;
+    let m = record.minute;
+    let s = record.second;
+    let text = [
+        tens(h),
+        ones(h),
+        b':',
+        tens(m),
+        ones(m),
+        b':',
+        tens(s),
+        ones(s),
+    ];
+    put(out, at, room, &text)
+}
+
+// What a combination checks and writes after its padding. Only `^` raises the names of `c`.
+fn combined(
+    out: &mut [u8],
+    at: usize,
+    room: usize,
+    combination: Combination,
+    record: Record,
+    upper: bool,
+) -> usize
+    requires { ⌜ Room (now out) room ⌝ }
+    ensures { λ r. ⌜ Combined room combination upper «record» (now (out .entry)) at (now (out .exit)) r ⌝ }
+{
+    match combination {
+        Combination::CombinationDateTime => date_time(out, at, room, record, upper),
+        Combination::CombinationDate => date(out, at, room, record),
+        Combination::CombinationIso8601 => iso8601(out, at, room, record),
+        Combination::CombinationVmsDate => vms_date(out, at, room, record),
+        Combination::CombinationTime12h => time12h(out, at, room, record),
+        Combination::CombinationHourMinute24h => hour_minute24h(out, at, room, record),
+        Combination::CombinationTime24h => time24h(out, at, room, record),
+    }
+}
+
+// How many bytes the year of `c` and `F` takes.
+fn year_text_length(year: i32) -> usize
+    ensures { λ r. ⌜ r ≡ length (yearText year) ⌝ }
+{
+    year_length(year, year_width(year as i64))
+}
+
+pub fn combination_length(combination: Combination, year: i32) -> usize
+    ensures { λ r. ⌜ r ≡ combinationLength combination year ⌝ }
+{
+    match combination {
+        Combination::CombinationDateTime => 20 + year_text_length(year),
+        Combination::CombinationDate => 8,
+        Combination::CombinationIso8601 => year_text_length(year) + 6,
+        Combination::CombinationVmsDate => 7 + year_length(year, 4),
+        Combination::CombinationTime12h => 11,
+        Combination::CombinationHourMinute24h => 5,
+        Combination::CombinationTime24h => 8,
+    }
+}
+
+pub fn combination(
+    out: &mut [u8],
+    at: usize,
+    room: usize,
+    limit: usize,
+    piece: Piece,
+    combination: Combination,
+    record: Record,
+) -> usize
+    requires { ⌜ Room (now out) room × (65536 ≤ limit) ⌝ }
+    ensures { λ r. ⌜ ((zone : List ℕ) → Ran limit room (specEvents (spec.Combination combination) piece «record» zone) (now (out .entry)) at (now (out .exit)) r) ⌝ }
+{
+    let upper = piece.flags.upper;
+    let length = combination_length(combination, record.year);
+    let next = write_padding(out, at, room, limit, piece, length);
+    combined(out, next, room, combination, record, upper)
+}
+
+// The pad of no bytes stays: it refuses a place beyond the room before the fields are checked.
+pub fn plain_combination(
+    out: &mut [u8],
+    at: usize,
+    room: usize,
+    limit: usize,
+    combination: Combination,
+    record: Record,
+) -> usize
+    requires { ⌜ Room (now out) room × (65536 ≤ limit) ⌝ }
+    ensures { λ r. ⌜ ((zone : List ℕ) → Ran limit room (specEvents (spec.Combination combination) (plainPiece (spec.Combination combination)) «record» zone) (now (out .entry)) at (now (out .exit)) r) ⌝ }
+{
+    let next = text::pad(out, at, room, limit, b' ', 0);
+    combined(out, next, room, combination, record, false)
+}

@@ -1,0 +1,115 @@
+-- The runs of names, zone names and single bytes, from the runs of their check, their pad and their text.
+use mathlib.Core.Path.{_≡_, refl, sym, ap, _∙_}
+use mathlib.Core.Bool.{Bool, true, false, cond}
+use mathlib.Core.List.{List, [], _∷_, _++_, map, map-append}
+use Prim.Native.Nat.{ℕ, _-_, _≤_, _<_}
+use native.Mathlib.Nat.{zero-sub}
+use native.Mathlib.Omega.{arith}
+use lib.ListN.{length}
+use Rattle.rules.specs.declared.Fixed.{Fixed}
+use Rattle.rules.specs.declared.Name.{Name}
+use Rattle.rules.specs.declared.Piece.{Piece}
+use Rattle.rules.specs.declared.Record.{Record}
+use Rattle.rules.specs.declared.Spec.{Spec}
+use Rattle.rules.specs.declared.Spec.the-variants.{Name as name, TimeZoneName, Fixed as fixed}
+use Rattle.rules.specs.Event.{put, pad, Event, write, check}
+use Rattle.rules.specs.Name.{inCase, nameOf, caseOf, zoneCase}
+use Rattle.rules.specs.Reading.{noFlags}
+use Rattle.rules.specs.Record.{zoneName, zoneOk, okField, allOk}
+use Rattle.rules.specs.Writing.{padTo, nameWrites, fixedByte, zoneWrites, nameFields, fieldsOf, leadOf, bodyOf, specEvents}
+use Rattle.text.specs.Ran.{Ran}
+use Rattle.text.specs.Room.{Room}
+use Rattle.text.proofs.RanLaws.{nothing, _then_, same-events, said, told, pad-none, checks-hold, stopped}
+use Rattle.fields.proofs.Laws.{alone}
+use Rattle.printing.specs.Plain.{plainPiece}
+use Rattle.name_directive.specs.Named.{padding, capitals, lettersOf}
+use Rattle.name_directive.proofs.LetterLaws.{letters-cased, length-cased}
+
+pub short : {l : List ℕ} {room : ℕ} → Room l room → length l ≤ 65536
+short r = omega (arith, r .within, r .small)
+
+module _ {limit room : ℕ} where
+  -- ## The pad
+
+  pub unpadded : (p : Piece) (k : ℕ) {l : List ℕ} {n : ℕ} → p .flags .left ≡ true → Ran limit room (map write (padding p k)) l n l n
+  unpadded p k e = same-events (ap (λ (left : Bool). map write (cond left [] (padTo p k ∷ []))) (sym e)) nothing
+
+  pub padded : (p : Piece) (k : ℕ) {l l′ : List ℕ} {n r : ℕ} → p .flags .left ≡ false → Ran limit room (write (padTo p k) ∷ []) l n l′ r → Ran limit room (map write (padding p k)) l n l′ r
+  padded p k e w = same-events (ap (λ (left : Bool). map write (cond left [] (padTo p k ∷ []))) (sym e)) w
+
+  -- ## The pad and the text
+
+  pub written : (p : Piece) (t : List ℕ) {k : ℕ} {l l′ l″ : List ℕ} {n m r : ℕ} → k ≡ length t → Ran limit room (map write (padding p k)) l n l′ m → Ran limit room (write (put t) ∷ []) l′ m l″ r → Ran limit room (map write (nameWrites p t)) l n l″ r
+  unfolding nameWrites
+  written p t e v w =
+      same-events (sym (map-append write (padding p (length t)) (put t ∷ [])))
+      (same-events (ap (λ (k : ℕ). map write (padding p k)) e) v then w)
+
+  pub plain-written : (s : Spec) (t : List ℕ) {l l′ : List ℕ} {n r : ℕ} → 65536 ≤ limit → Ran limit room (write (put t) ∷ []) l n l′ r → Ran limit room (map write (nameWrites (plainPiece s) t)) l n l′ r
+  unfolding nameWrites
+  plain-written s t h w =
+      same-events (ap (λ (k : ℕ). write (pad 32 k) ∷ write (put t) ∷ []) (sym (zero-sub (length t)))) (pad-none h w)
+
+  -- ## Names
+
+  module _ (n : Name) (p : Piece) (r : Record) (zone : List ℕ) {ok : Bool} (e : ok ≡ allOk (nameFields n) r zone) where
+    name-held : {l l′ : List ℕ} {a b : ℕ} → ok ≡ true → Ran limit room (map write (nameWrites p (inCase (caseOf n (p .flags)) (nameOf n r)))) l a l′ b → Ran limit room (specEvents (name n) p r zone) l a l′ b
+    unfolding specEvents leadOf fieldsOf bodyOf
+    name-held t w = told (sym t ∙ e) (checks-hold w)
+
+    pub name-failed : {l : List ℕ} {a b : ℕ} → ok ≡ false → length l ≤ 65536 → Ran limit room (check false 1 ∷ []) l a l b → Ran limit room (specEvents (name n) p r zone) l a l b
+    unfolding specEvents leadOf fieldsOf bodyOf
+    name-failed t h w = told (sym t ∙ e) (stopped h w)
+
+  cased : (n : Name) (p : Piece) (r : Record) {capital : Bool} {l l′ : List ℕ} {a b : ℕ} → capital ≡ capitals n (p .flags) → Ran limit room (write (put (lettersOf n capital r)) ∷ []) l a l′ b → Ran limit room (write (put (inCase (caseOf n (p .flags)) (nameOf n r))) ∷ []) l a l′ b
+  cased n p r e w = said (ap (λ (capital : Bool). lettersOf n capital r) e ∙ letters-cased n (p .flags) r) w
+
+  pub named : (n : Name) (p : Piece) (r : Record) (zone : List ℕ) {ok capital : Bool} {k : ℕ} {l l′ l″ : List ℕ} {a m b : ℕ} → ok ≡ allOk (nameFields n) r zone → ok ≡ true → k ≡ length (nameOf n r) → capital ≡ capitals n (p .flags) → Ran limit room (map write (padding p k)) l a l′ m → Ran limit room (write (put (lettersOf n capital r)) ∷ []) l′ m l″ b → Ran limit room (specEvents (name n) p r zone) l a l″ b
+  named n p r zone e t k q v w =
+      name-held n p r zone e t
+      (written p (inCase (caseOf n (p .flags)) (nameOf n r)) (k ∙ sym (length-cased (caseOf n (p .flags)) (nameOf n r))) v (cased n p r q w))
+
+  pub plain-named : (n : Name) (r : Record) (zone : List ℕ) {ok capital : Bool} {l l′ : List ℕ} {a b : ℕ} → ok ≡ allOk (nameFields n) r zone → ok ≡ true → capital ≡ capitals n noFlags → 65536 ≤ limit → Ran limit room (write (put (lettersOf n capital r)) ∷ []) l a l′ b → Ran limit room (specEvents (name n) (plainPiece (name n)) r zone) l a l′ b
+  plain-named n r zone e t q h w =
+      name-held n (plainPiece (name n)) r zone e t
+      (plain-written (name n) (inCase (caseOf n noFlags) (nameOf n r)) h (cased n (plainPiece (name n)) r q w))
+
+  -- ## Zone names
+
+  zone-checked : (r : Record) (zone : List ℕ) {ok : Bool} {es : List Event} {l l′ : List ℕ} {a b : ℕ} → ok ≡ zoneOk zone → Ran limit room (check ok 1 ∷ es) l a l′ b → Ran limit room (check (allOk (zoneName ∷ []) r zone) 1 ∷ es) l a l′ b
+  unfolding okField
+  zone-checked r zone e w = told (alone r zone zoneName e) w
+
+  pub zone-empty : (p : Piece) (r : Record) (zone : List ℕ) {ok : Bool} {l l′ : List ℕ} {a b : ℕ} → ok ≡ zoneOk zone → length zone ≡ 0 → Ran limit room (check ok 1 ∷ []) l a l′ b → Ran limit room (specEvents TimeZoneName p r zone) l a l′ b
+  unfolding specEvents leadOf fieldsOf bodyOf zoneWrites
+  zone-empty p r [] e h w = zone-checked r [] e w
+  zone-empty p r (z ∷ zone) e h w = absurd (omega arith)
+
+  zone-held : (p : Piece) (r : Record) (zone : List ℕ) {ok : Bool} {l l′ l″ : List ℕ} {a m b : ℕ} → ok ≡ zoneOk zone → (length zone ≡ 0 → ⊥) → Ran limit room (check ok 1 ∷ []) l a l′ m → Ran limit room (map write (nameWrites p (inCase (zoneCase (p .flags)) zone))) l′ m l″ b → Ran limit room (specEvents TimeZoneName p r zone) l a l″ b
+  unfolding specEvents leadOf fieldsOf bodyOf zoneWrites
+  zone-held p r [] e h v w = absurd (h refl)
+  zone-held p r (z ∷ zone) e h v w = zone-checked r (z ∷ zone) e v then w
+
+  pub zone-named : (p : Piece) (r : Record) (zone : List ℕ) {ok : Bool} {l l′ l″ l‴ : List ℕ} {a m k b : ℕ} → ok ≡ zoneOk zone → (length zone ≡ 0 → ⊥) → Ran limit room (check ok 1 ∷ []) l a l′ m → Ran limit room (map write (padding p (length zone))) l′ m l″ k → Ran limit room (write (put (inCase (zoneCase (p .flags)) zone)) ∷ []) l″ k l‴ b → Ran limit room (specEvents TimeZoneName p r zone) l a l‴ b
+  zone-named p r zone e h v w x =
+      zone-held p r zone e h v
+      (written p (inCase (zoneCase (p .flags)) zone) (sym (length-cased (zoneCase (p .flags)) zone)) w x)
+
+  pub plain-zone-named : (r : Record) (zone : List ℕ) {ok : Bool} {l l′ l″ : List ℕ} {a m b : ℕ} → ok ≡ zoneOk zone → (length zone ≡ 0 → ⊥) → 65536 ≤ limit → Ran limit room (check ok 1 ∷ []) l a l′ m → Ran limit room (write (put zone) ∷ []) l′ m l″ b → Ran limit room (specEvents TimeZoneName (plainPiece TimeZoneName) r zone) l a l″ b
+  unfolding inCase
+  plain-zone-named r zone e h g v w = zone-held (plainPiece TimeZoneName) r zone e h v (plain-written TimeZoneName zone g w)
+
+  -- ## Single bytes
+
+  fixed-checked : (f : Fixed) (p : Piece) (r : Record) (zone : List ℕ) {l l′ : List ℕ} {a b : ℕ} → Ran limit room (map write (nameWrites p (fixedByte f ∷ []))) l a l′ b → Ran limit room (specEvents (fixed f) p r zone) l a l′ b
+  unfolding specEvents leadOf fieldsOf bodyOf allOk
+  fixed-checked f p r zone w = checks-hold w
+
+  byte-is : (f : Fixed) {byte : ℕ} {l l′ : List ℕ} {a b : ℕ} → byte ≡ fixedByte f → Ran limit room (write (put (byte ∷ [])) ∷ []) l a l′ b → Ran limit room (write (put (fixedByte f ∷ [])) ∷ []) l a l′ b
+  byte-is f e w = said (ap (λ (x : ℕ). x ∷ []) e) w
+
+  pub fixed-written : (f : Fixed) (p : Piece) (r : Record) (zone : List ℕ) {byte : ℕ} {l l′ l″ : List ℕ} {a m b : ℕ} → byte ≡ fixedByte f → Ran limit room (map write (padding p 1)) l a l′ m → Ran limit room (write (put (byte ∷ [])) ∷ []) l′ m l″ b → Ran limit room (specEvents (fixed f) p r zone) l a l″ b
+  fixed-written f p r zone e v w = fixed-checked f p r zone (written p (fixedByte f ∷ []) refl v (byte-is f e w))
+
+  pub plain-fixed-written : (f : Fixed) (r : Record) (zone : List ℕ) {byte : ℕ} {l l′ : List ℕ} {a b : ℕ} → byte ≡ fixedByte f → 65536 ≤ limit → Ran limit room (write (put (byte ∷ [])) ∷ []) l a l′ b → Ran limit room (specEvents (fixed f) (plainPiece (fixed f)) r zone) l a l′ b
+  plain-fixed-written f r zone e h w = fixed-checked f (plainPiece (fixed f)) r zone (plain-written (fixed f) (fixedByte f ∷ []) h (byte-is f e w))

@@ -1,0 +1,64 @@
+-- After i turns the first i bytes lie over out, each in its case.
+use mathlib.Core.List.{map}
+use Prim.Native.Nat.{_-_, _≤_}
+use native.Mathlib.Omega.{arith}
+use borrow.Author.Needs.{needs}
+use lib.ListN.{length, length-map}
+use Rattle.text.proofs.OverlayLaws.{Laid, laid-none, laid-all}
+use Rattle.name_directive.specs.Named.{byteIn}
+use Rattle.name_directive.proofs.LetterLaws.{laid-through}
+use Rattle.name_directive.proofs.copy_cased.Statement.{statement}
+use Rattle.name_directive.proofs.copy_cased.Tie as tie
+
+abbrev Inv-loop : tie.InvT-loop
+Inv-loop out₀ at src lowered i₀ out i = (i ≤ length src) × Laid at (map (byteIn lowered) src) out₀ i out
+
+abbrev μ-loop : tie.MeasureT-loop
+μ-loop out₀ at src lowered i₀ out i = length src - i
+
+loop-holds : tie.Need-loop-holds Inv-loop μ-loop
+loop-holds c = (omega arith, laid-none)
+
+shared-slice-read-cased : tie.Need-shared-slice-read-cased Inv-loop μ-loop
+shared-slice-read-cased c = omega arith
+
+cased-requires : tie.Need-cased-requires Inv-loop μ-loop
+cased-requires c κs = search needs
+
+add-out : tie.Need-add-out Inv-loop μ-loop
+add-out c = omega arith
+
+slice-write-out : tie.Need-slice-write-out Inv-loop μ-loop
+slice-write-out c = omega arith
+
+add-i : tie.Need-add-i Inv-loop μ-loop
+add-i c = omega arith
+
+loop-less : tie.Need-loop-less Inv-loop μ-loop
+loop-less c = omega arith
+
+loop-again : tie.Need-loop-again Inv-loop μ-loop
+loop-again c = (omega arith, laid-through (byteIn (c .before .before .before .before .before .before .args .lowered)) (c .before .before .before .before .before .before .args .src .now) (c .before .before .before .loop .inv .1) (c .before .before .loop-test .taken) (c .cased .ensures))
+
+same-length : tie.Need-same-length Inv-loop μ-loop
+same-length c = search needs
+
+returns : tie.Need-returns Inv-loop μ-loop
+returns c = laid-all (c .before .loop .inv .1) (simp length-map (omega arith))
+
+pub copy-cased-spec : {M : Type 1} → statement M
+copy-cased-spec =
+    tie.close
+    (tie.spec
+    Inv-loop
+    μ-loop
+    loop-holds
+    shared-slice-read-cased
+    cased-requires
+    add-out
+    slice-write-out
+    add-i
+    loop-less
+    loop-again
+    same-length
+    returns)

@@ -1,0 +1,25 @@
+-- The pad, and the byte.
+use Rattle.name_directive.proofs.NamedLaws.{fixed-written}
+use borrow.Author.Needs.{needs}
+use Rattle.name_directive.proofs.fixed.Statement.{statement}
+use Rattle.name_directive.proofs.fixed.Tie as tie
+
+string-padding-requires : tie.Need-string-padding-requires
+string-padding-requires c κs = search needs
+
+fixed-byte-requires : tie.Need-fixed-byte-requires
+fixed-byte-requires c κs = search needs
+
+put-byte-requires : tie.Need-put-byte-requires
+put-byte-requires c κs = search needs
+
+same-length : tie.Need-same-length
+same-length c = search needs
+
+returns : tie.Need-returns
+returns c = λ r zone. fixed-written (c .before .before .before .before .before .before .before .before .before .before .args .fixed) (c .before .before .before .before .before .before .before .before .before .before .args .piece) r zone (c .before .before .before .fixed-byte .ensures) (c .before .before .before .before .before .before .before .string-padding .ensures) (c .before .before .put-byte .ensures _)
+
+pub fixed-spec : {M : Type 1} → statement M
+fixed-spec =
+    tie.close
+    (tie.spec string-padding-requires fixed-byte-requires put-byte-requires same-length returns)

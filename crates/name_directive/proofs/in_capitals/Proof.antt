@@ -1,0 +1,70 @@
+-- Each arm is the test of its name.
+use mathlib.Core.Path.{sym, ap, _∙_}
+use Rattle.rules.specs.declared.Name.{Name}
+use Rattle.name_directive.specs.Named.{capitals}
+use borrow.Author.Needs.{needs}
+use Rattle.name_directive.proofs.in_capitals.Statement.{statement}
+use Rattle.name_directive.proofs.in_capitals.Tie as tie
+
+has-change-or-upper-case-requires : tie.Need-has-change-or-upper-case-requires
+has-change-or-upper-case-requires c κs = search needs
+
+enum-told : tie.Need-enum-told
+enum-told c = search needs
+
+enum-told-2 : tie.Need-enum-told-2
+enum-told-2 c = search needs
+
+enum-told-3 : tie.Need-enum-told-3
+enum-told-3 c = search needs
+
+enum-told-4 : tie.Need-enum-told-4
+enum-told-4 c = search needs
+
+enum-told-5 : tie.Need-enum-told-5
+enum-told-5 c = search needs
+
+enum-told-6 : tie.Need-enum-told-6
+enum-told-6 c = search needs
+
+returns : tie.Need-returns
+unfolding capitals
+returns c = c .before .before .has-change-or-upper-case .ensures ∙ sym (ap (λ (n : Name). capitals n (c .before .before .before .args .flags)) (c .enum-told .given .1))
+
+returns-2 : tie.Need-returns-2
+unfolding capitals
+returns-2 c = c .before .before .has-change-or-upper-case .ensures ∙ sym (ap (λ (n : Name). capitals n (c .before .before .before .args .flags)) (c .enum-told2 .given .1))
+
+returns-3 : tie.Need-returns-3
+unfolding capitals
+returns-3 c = c .before .before .has-change-or-upper-case .ensures ∙ sym (ap (λ (n : Name). capitals n (c .before .before .before .args .flags)) (c .enum-told3 .given .1))
+
+returns-4 : tie.Need-returns-4
+unfolding capitals
+returns-4 c = sym (ap (λ (n : Name). capitals n (c .before .before .before .before .args .flags)) (c .before .enum-told4 .given .1))
+
+returns-5 : tie.Need-returns-5
+unfolding capitals
+returns-5 c = c .before .before .has-change-or-upper-case .ensures ∙ sym (ap (λ (n : Name). capitals n (c .before .before .before .args .flags)) (c .enum-told5 .given .1))
+
+returns-6 : tie.Need-returns-6
+unfolding capitals
+returns-6 c = c .before .before .has-change-or-upper-case .ensures ∙ sym (ap (λ (n : Name). capitals n (c .before .before .before .args .flags)) (c .enum-told6 .given .1))
+
+pub in-capitals-spec : {M : Type 1} → statement M
+in-capitals-spec =
+    tie.close
+    (tie.spec
+    has-change-or-upper-case-requires
+    enum-told
+    enum-told-2
+    enum-told-3
+    enum-told-4
+    enum-told-5
+    enum-told-6
+    returns
+    returns-2
+    returns-3
+    returns-4
+    returns-5
+    returns-6)

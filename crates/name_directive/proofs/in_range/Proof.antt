@@ -1,0 +1,91 @@
+-- Each arm checks the one field of its name.
+use Rattle.rules.specs.Record.{month, hour, weekday}
+use Rattle.rules.specs.Writing.{nameFields}
+use Rattle.fields.proofs.Laws.{alone}
+use Rattle.name_directive.proofs.LetterLaws.{known}
+use borrow.Author.Needs.{needs}
+use Rattle.name_directive.proofs.in_range.Statement.{statement}
+use Rattle.name_directive.proofs.in_range.Tie as tie
+
+enum-told : tie.Need-enum-told
+enum-told c = search needs
+
+month-requires : tie.Need-month-requires
+month-requires c κs = search needs
+
+enum-told-2 : tie.Need-enum-told-2
+enum-told-2 c = search needs
+
+month-requires-2 : tie.Need-month-requires-2
+month-requires-2 c κs = search needs
+
+enum-told-3 : tie.Need-enum-told-3
+enum-told-3 c = search needs
+
+hour-requires : tie.Need-hour-requires
+hour-requires c κs = search needs
+
+enum-told-4 : tie.Need-enum-told-4
+enum-told-4 c = search needs
+
+hour-requires-2 : tie.Need-hour-requires-2
+hour-requires-2 c κs = search needs
+
+enum-told-5 : tie.Need-enum-told-5
+enum-told-5 c = search needs
+
+day-of-week-requires : tie.Need-day-of-week-requires
+day-of-week-requires c κs = search needs
+
+enum-told-6 : tie.Need-enum-told-6
+enum-told-6 c = search needs
+
+day-of-week-requires-2 : tie.Need-day-of-week-requires-2
+day-of-week-requires-2 c κs = search needs
+
+returns : tie.Need-returns
+unfolding nameFields
+returns c = known _ (c .before .enum-told .given .1) (λ zone. alone _ zone month (c .month .ensures zone))
+
+returns-2 : tie.Need-returns-2
+unfolding nameFields
+returns-2 c = known _ (c .before .enum-told2 .given .1) (λ zone. alone _ zone month (c .month2 .ensures zone))
+
+returns-3 : tie.Need-returns-3
+unfolding nameFields
+returns-3 c = known _ (c .before .enum-told3 .given .1) (λ zone. alone _ zone hour (c .hour .ensures zone))
+
+returns-4 : tie.Need-returns-4
+unfolding nameFields
+returns-4 c = known _ (c .before .enum-told4 .given .1) (λ zone. alone _ zone hour (c .hour2 .ensures zone))
+
+returns-5 : tie.Need-returns-5
+unfolding nameFields
+returns-5 c = known _ (c .before .enum-told5 .given .1) (λ zone. alone _ zone weekday (c .day-of-week .ensures zone))
+
+returns-6 : tie.Need-returns-6
+unfolding nameFields
+returns-6 c = known _ (c .before .enum-told6 .given .1) (λ zone. alone _ zone weekday (c .day-of-week2 .ensures zone))
+
+pub in-range-spec : {M : Type 1} → statement M
+in-range-spec =
+    tie.close
+    (tie.spec
+    enum-told
+    month-requires
+    enum-told-2
+    month-requires-2
+    enum-told-3
+    hour-requires
+    enum-told-4
+    hour-requires-2
+    enum-told-5
+    day-of-week-requires
+    enum-told-6
+    day-of-week-requires-2
+    returns
+    returns-2
+    returns-3
+    returns-4
+    returns-5
+    returns-6)

@@ -1,0 +1,46 @@
+-- A text that fits in the slice is laid there byte by byte; one that does not is missed.
+use mathlib.Core.Path.{sym, ap, _∙_}
+use mathlib.Core.List.{map}
+use Prim.Native.Nat.{ℕ, _+_}
+use native.Mathlib.Omega.{arith}
+use lib.ListN.{length-map}
+use borrow.Author.Tests.{leb-true}
+use Rattle.text.proofs.PlaceLaws.{fits-yes, fits-no}
+use Rattle.text.proofs.RanLaws.{placed}
+use Rattle.name_directive.specs.Named.{byteIn}
+use borrow.Author.Needs.{needs}
+use Rattle.name_directive.proofs.put_cased.Statement.{statement}
+use Rattle.name_directive.proofs.put_cased.Tie as tie
+
+fits-requires : tie.Need-fits-requires
+fits-requires c κs = search needs
+
+copy-cased-requires : tie.Need-copy-cased-requires
+copy-cased-requires c κs = fits-yes _ _ (c .before .before .fits2 .ensures) (c .before .if1 .taken)
+
+add-result : tie.Need-add-result
+add-result c = let k = sym (c .before .before .before .before .before .fits2 .ensures) ∙ c .before .before .before .before .if1 .taken in omega (arith, leb-true)
+
+same-length : tie.Need-same-length
+same-length c = search needs
+
+returns : tie.Need-returns
+returns c = let a = c .before .before .before .before .before .before .before .before .args in let k = fits-yes _ _ (c .before .before .before .before .before .fits2 .ensures) (c .before .before .before .before .if1 .taken) in λ limit. placed (c .before .before .copy-cased .ensures) (ap (λ (n : ℕ). a .at + n) (sym (length-map (a .src .now) (byteIn (a .lowered))))) k (c .before .before .before .before .before .before .before .before .pre)
+
+missed-requires : tie.Need-missed-requires
+missed-requires c κs = search needs
+
+returns-2 : tie.Need-returns-2
+returns-2 c = let a = c .before .before .before .before .before .args in let k = fits-no _ _ (c .before .before .fits2 .ensures) (c .before .if1 .left) in λ limit. c .missed .ensures limit (map (byteIn (a .lowered)) (a .src .now)) _ (length-map (a .src .now) (byteIn (a .lowered))) (c .before .before .before .before .before .pre .within) k
+
+pub put-cased-spec : {M : Type 1} → statement M
+put-cased-spec =
+    tie.close
+    (tie.spec
+    fits-requires
+    copy-cased-requires
+    add-result
+    same-length
+    returns
+    missed-requires
+    returns-2)

@@ -1,0 +1,276 @@
+// Ports `format_string` of format/mod.rs, and the arms of its `Piece::fmt` that write names and single bytes.
+ghost use mathlib.Core.Path.{_≡_};
+ghost use mathlib.Core.Bool.{true};
+ghost use mathlib.Core.List.{List, [], _∷_, map};
+ghost use Prim.Native.Nat.{ℕ, _+_, _≤_};
+ghost use lib.ListN.{length};
+ghost use Rattle.rules.specs.declared.Record as declared;
+ghost use Rattle.rules.specs.declared.Spec.the-variants as spec;
+ghost use Rattle.rules.specs.Event as event;
+ghost use Rattle.rules.specs.Name as letter;
+ghost use Rattle.rules.specs.Name.{inCase, nameOf, zoneCase};
+ghost use Rattle.rules.specs.Record.{allOk};
+ghost use Rattle.rules.specs.Writing.{nameFields, fixedByte, specEvents};
+ghost use Rattle.text.specs.Overlay.{overlay};
+ghost use Rattle.text.specs.Ran.{Ran};
+ghost use Rattle.text.specs.Room.{Room};
+ghost use Rattle.printing.specs.Plain.{plainPiece};
+ghost use Rattle.name_directive.specs.Named.{padding, capitals, lettersOf, byteIn};
+use names::calendar;
+use rules::Fixed;
+use rules::Flags;
+use rules::Name;
+use rules::Piece;
+use rules::Record;
+
+// The pad of `format_string`: none with the left flag.
+fn string_padding(
+    out: &mut [u8],
+    at: usize,
+    room: usize,
+    limit: usize,
+    piece: Piece,
+    length: usize,
+) -> usize
+    requires { ⌜ Room (now out) room × (65536 ≤ limit) ⌝ }
+    ensures { λ r. ⌜ Ran limit room (map event.write (padding piece length)) (now (out .entry)) at (now (out .exit)) r ⌝ }
+{
+    if piece.flags.left {
+        return at;
+    }
+    printing::write_padding(out, at, room, limit, piece, length)
+}
+
+// Whether the field that a name reads is in its range.
+fn in_range(name: Name, record: Record) -> bool
+    ensures { λ r. ⌜ ((zone : List ℕ) → r ≡ allOk (nameFields name) «record» zone) ⌝ }
+{
+    match name {
+        Name::MonthName => fields::month(record),
+        Name::MonthNameAbbr => fields::month(record),
+        Name::MeridianLower => fields::hour(record),
+        Name::MeridianUpper => fields::hour(record),
+        Name::WeekDayName => fields::day_of_week(record),
+        Name::WeekDayNameAbbr => fields::day_of_week(record),
+    }
+}
+
+fn in_capitals(name: Name, flags: Flags) -> bool
+    ensures { λ r. ⌜ r ≡ capitals name flags ⌝ }
+{
+    let either = flags.has_change_or_upper_case();
+    match name {
+        Name::MonthName => either,
+        Name::MonthNameAbbr => either,
+        Name::MeridianLower => either,
+        Name::MeridianUpper => !flags.change,
+        Name::WeekDayName => either,
+        Name::WeekDayNameAbbr => either,
+    }
+}
+
+fn name_length(name: Name, record: Record) -> usize
+    requires { ⌜ allOk (nameFields name) «record» [] ≡ true ⌝ }
+    ensures { λ r. ⌜ r ≡ length (nameOf name «record») ⌝ }
+{
+    match name {
+        Name::MonthName => calendar::month_length(record.month),
+        Name::MonthNameAbbr => 3,
+        Name::MeridianLower => 2,
+        Name::MeridianUpper => 2,
+        Name::WeekDayName => calendar::day_length(record.day_of_week),
+        Name::WeekDayNameAbbr => 3,
+    }
+}
+
+fn put_name(
+    out: &mut [u8],
+    at: usize,
+    room: usize,
+    name: Name,
+    record: Record,
+    capital: bool,
+) -> usize
+    requires { ⌜ Room (now out) room × (allOk (nameFields name) «record» [] ≡ true) ⌝ }
+    ensures { λ r. ⌜ ((limit : ℕ) → Ran limit room (event.write (event.put (lettersOf name capital «record»)) ∷ []) (now (out .entry)) at (now (out .exit)) r) ⌝ }
+{
+    match name {
+        Name::MonthName => calendar::put_month(out, at, room, record.month, capital),
+        Name::MonthNameAbbr => {
+            let three = calendar::month_three(record.month, capital);
+            calendar::put_three(out, at, room, three)
+        }
+        Name::MeridianLower | Name::MeridianUpper => {
+            calendar::put_meridian(out, at, room, record.hour, capital)
+        }
+        Name::WeekDayName => calendar::put_day(out, at, room, record.day_of_week, capital),
+        Name::WeekDayNameAbbr => {
+            let three = calendar::day_three(record.day_of_week, capital);
+            calendar::put_three(out, at, room, three)
+        }
+    }
+}
+
+pub fn name(
+    out: &mut [u8],
+    at: usize,
+    room: usize,
+    limit: usize,
+    piece: Piece,
+    name: Name,
+    record: Record,
+) -> usize
+    requires { ⌜ Room (now out) room × (65536 ≤ limit) ⌝ }
+    ensures { λ r. ⌜ ((zone : List ℕ) → Ran limit room (specEvents (spec.Name name) piece «record» zone) (now (out .entry)) at (now (out .exit)) r) ⌝ }
+{
+    if in_range(name, record) {
+        let flags = piece.flags;
+        let next = string_padding(out, at, room, limit, piece, name_length(name, record));
+        return put_name(out, next, room, name, record, in_capitals(name, flags));
+    }
+    text::checked(at, false, 1)
+}
+
+pub fn plain_name(
+    out: &mut [u8],
+    at: usize,
+    room: usize,
+    limit: usize,
+    name: Name,
+    record: Record,
+) -> usize
+    requires { ⌜ Room (now out) room × (65536 ≤ limit) ⌝ }
+    ensures { λ r. ⌜ ((zone : List ℕ) → Ran limit room (specEvents (spec.Name name) (plainPiece (spec.Name name)) «record» zone) (now (out .entry)) at (now (out .exit)) r) ⌝ }
+{
+    if in_range(name, record) {
+        return put_name(out, at, room, name, record, in_capitals(name, Flags::new()));
+    }
+    text::checked(at, false, 1)
+}
+
+fn lower(b: u8) -> u8
+    ensures { λ r. ⌜ r ≡ letter.lower b ⌝ }
+{
+    if b'A' <= b && b <= b'Z' { b + 32 } else { b }
+}
+
+fn upper(b: u8) -> u8
+    ensures { λ r. ⌜ r ≡ letter.upper b ⌝ }
+{
+    if b'a' <= b && b <= b'z' { b - 32 } else { b }
+}
+
+fn cased(b: u8, lowered: bool) -> u8
+    ensures { λ r. ⌜ r ≡ byteIn lowered b ⌝ }
+{
+    if lowered { lower(b) } else { upper(b) }
+}
+
+fn copy_cased(out: &mut [u8], at: usize, src: &[u8], lowered: bool)
+    requires { ⌜ at + length (now src) ≤ length (now out) ⌝ }
+    ensures { λ r. ⌜ now (out .exit) ≡ overlay at (map (byteIn lowered) (now (src .entry))) (now (out .entry)) ⌝ }
+{
+    let mut i = 0;
+    while i < src.len() {
+        out[at + i] = cased(src[i], lowered);
+        i += 1;
+    }
+}
+
+fn put_cased(out: &mut [u8], at: usize, room: usize, src: &[u8], lowered: bool) -> usize
+    requires { ⌜ Room (now out) room ⌝ }
+    ensures { λ r. ⌜ ((limit : ℕ) → Ran limit room (event.write (event.put (map (byteIn lowered) (now (src .entry)))) ∷ []) (now (out .entry)) at (now (out .exit)) r) ⌝ }
+{
+    let count = src.len();
+    if text::fits(at, count, out.len()) {
+        copy_cased(out, at, src, lowered);
+        return at + count;
+    }
+    text::missed(at, count, room)
+}
+
+// `#` lowers and wins over `^`, which raises.
+fn put_zone(out: &mut [u8], at: usize, room: usize, zone: &[u8], flags: Flags) -> usize
+    requires { ⌜ Room (now out) room ⌝ }
+    ensures { λ r. ⌜ ((limit : ℕ) → Ran limit room (event.write (event.put (inCase (zoneCase flags) (now (zone .entry)))) ∷ []) (now (out .entry)) at (now (out .exit)) r) ⌝ }
+{
+    if flags.has_change_or_upper_case() {
+        return put_cased(out, at, room, zone, flags.change);
+    }
+    text::put(out, at, room, zone)
+}
+
+pub fn zone_name(
+    out: &mut [u8],
+    at: usize,
+    room: usize,
+    limit: usize,
+    piece: Piece,
+    zone: &[u8],
+) -> usize
+    requires { ⌜ Room (now out) room × (65536 ≤ limit) ⌝ }
+    ensures { λ r. ⌜ ((«record» : declared.Record) → Ran limit room (specEvents spec.TimeZoneName piece «record» (now (zone .entry))) (now (out .entry)) at (now (out .exit)) r) ⌝ }
+{
+    let checked = text::checked(at, fields::time_zone(zone), 1);
+    let length = zone.len();
+    if length == 0 {
+        return checked;
+    }
+    let flags = piece.flags;
+    let next = string_padding(out, checked, room, limit, piece, length);
+    put_zone(out, next, room, zone, flags)
+}
+
+pub fn plain_zone_name(out: &mut [u8], at: usize, room: usize, limit: usize, zone: &[u8]) -> usize
+    requires { ⌜ Room (now out) room × (65536 ≤ limit) ⌝ }
+    ensures { λ r. ⌜ ((«record» : declared.Record) → Ran limit room (specEvents spec.TimeZoneName (plainPiece spec.TimeZoneName) «record» (now (zone .entry))) (now (out .entry)) at (now (out .exit)) r) ⌝ }
+{
+    let checked = text::checked(at, fields::time_zone(zone), 1);
+    if zone.len() == 0 {
+        return checked;
+    }
+    text::put(out, checked, room, zone)
+}
+
+fn fixed_byte(fixed: Fixed) -> u8
+    ensures { λ r. ⌜ r ≡ fixedByte fixed ⌝ }
+{
+    match fixed {
+        Fixed::Newline => b'\n',
+        Fixed::Tabulation => b'\t',
+        Fixed::Percent => b'%',
+    }
+}
+
+fn put_byte(out: &mut [u8], at: usize, room: usize, byte: u8) -> usize
+    requires { ⌜ Room (now out) room ⌝ }
+    ensures { λ r. ⌜ ((limit : ℕ) → Ran limit room (event.write (event.put (byte ∷ [])) ∷ []) (now (out .entry)) at (now (out .exit)) r) ⌝ }
+{
+    if at < out.len() {
+        out[at] = byte;
+        return at + 1;
+    }
+    text::missed(at, 1, room)
+}
+
+pub fn fixed(
+    out: &mut [u8],
+    at: usize,
+    room: usize,
+    limit: usize,
+    piece: Piece,
+    fixed: Fixed,
+) -> usize
+    requires { ⌜ Room (now out) room × (65536 ≤ limit) ⌝ }
+    ensures { λ r. ⌜ ((«record» : declared.Record) (zone : List ℕ) → Ran limit room (specEvents (spec.Fixed fixed) piece «record» zone) (now (out .entry)) at (now (out .exit)) r) ⌝ }
+{
+    let next = string_padding(out, at, room, limit, piece, 1);
+    put_byte(out, next, room, fixed_byte(fixed))
+}
+
+pub fn plain_fixed(out: &mut [u8], at: usize, room: usize, limit: usize, fixed: Fixed) -> usize
+    requires { ⌜ Room (now out) room × (65536 ≤ limit) ⌝ }
+    ensures { λ r. ⌜ ((«record» : declared.Record) (zone : List ℕ) → Ran limit room (specEvents (spec.Fixed fixed) (plainPiece (spec.Fixed fixed)) «record» zone) (now (out .entry)) at (now (out .exit)) r) ⌝ }
+{
+    put_byte(out, at, room, fixed_byte(fixed))
+}

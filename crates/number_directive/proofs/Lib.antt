@@ -1,0 +1,3 @@
+pub mod FractionLaws
+pub mod NumberLaws
+pub mod QuickLaws

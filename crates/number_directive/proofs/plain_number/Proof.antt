@@ -1,0 +1,37 @@
+-- A field out of range stops at once; else the number is filled by its own fill to its own width.
+use mathlib.Core.Path.{refl}
+use native.Mathlib.Omega.{arith}
+use mir.Syntax.{w64}
+use mir.ValLaws.{toZ-ofZ}
+use borrow.Author.Tests.{not-true, not-false}
+use Rattle.number_directive.proofs.NumberLaws.{own-fill, narrow, number-held, number-failed}
+use borrow.Author.Needs.{needs}
+use Rattle.number_directive.proofs.plain_number.Statement.{statement}
+use Rattle.number_directive.proofs.plain_number.Tie as tie
+
+value-of-requires : tie.Need-value-of-requires
+value-of-requires c κs = search needs
+
+checked-requires : tie.Need-checked-requires
+checked-requires c κs = search needs
+
+returns : tie.Need-returns
+returns c =
+    let a = c .before .before .before .before .before .args in
+    λ limit zone h. number-failed (a .number) _ (a .«record») zone (c .before .before .before .value-of .ensures) (not-true _ (c .before .if1 .taken)) (omega arith) (c .checked .ensures _ _ _ (omega arith))
+
+put-quick-requires : tie.Need-put-quick-requires
+put-quick-requires c κs = search needs
+
+same-length : tie.Need-same-length
+same-length c = search needs
+
+returns-2 : tie.Need-returns-2
+returns-2 c =
+    let a = c .before .before .before .before .before .before .before .before .before .before .args in
+    λ limit zone h. number-held (a .number) _ (a .«record») zone (c .before .before .before .before .before .before .before .before .value-of .ensures) (not-false _ (c .before .before .before .before .before .before .if1 .left)) refl (own-fill (c .before .before .before .before .before .before .before .before .value-of .result .space)) refl (toZ-ofZ w64 (c .before .before .before .before .before .before .before .before .value-of .result .number) (omega arith)) (narrow _ _ _ (omega (arith, c .before .before .before .before .before .before .before .before .value-of .ensures .narrow)) h (c .before .before .put-quick .ensures limit))
+
+pub plain-number-spec : {M : Type 1} → statement M
+plain-number-spec =
+    tie.close
+    (tie.spec value-of-requires checked-requires returns put-quick-requires same-length returns-2)

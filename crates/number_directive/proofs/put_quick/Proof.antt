@@ -1,0 +1,63 @@
+-- Two digits, four digits, or the general way.
+use borrow.Author.Tests.{eqb-true}
+use Rattle.text.proofs.RanLaws.{said}
+use Rattle.printing.specs.FillWith.{fillWith}
+use Rattle.number_directive.proofs.QuickLaws.{Below, below-bound, as-read, cast-two, below-two, two-text, cast-four, four-text}
+use borrow.Author.Needs.{needs}
+use Rattle.number_directive.proofs.put_quick.Statement.{statement}
+use Rattle.number_directive.proofs.put_quick.Tie as tie
+
+two-digits : (c : tie.Then4) → Below (c .before .before .before .before .before .args .v) 100
+two-digits c = below-bound _ 100 (c .before .before .before .before .before .fits .v) (c .before .if3 .taken) (c .if4 .taken)
+
+four-digits : (c : tie.Then8) → Below (c .before .before .before .before .before .before .args .v) 10000
+four-digits c = below-bound _ 10000 (c .before .before .before .before .before .before .fits .v) (c .before .if7 .taken) (c .if8 .taken)
+
+cast-put-two : tie.Need-cast-put-two
+cast-put-two c = cast-two _ (two-digits (c .before))
+
+put-two-requires : tie.Need-put-two-requires
+put-two-requires c κs = (c .before .before .before .before .before .before .pre .0, below-two _ (two-digits (c .before)))
+
+same-length : tie.Need-same-length
+same-length c = search needs
+
+returns : tie.Need-returns
+returns c = λ limit. said (two-text _ (two-digits (c .before .before .before .before)) (c .before .before .before .before .before .before .before .if1 .taken) (eqb-true (c .before .before .before .before .before .before .before .before .before .args .width) 2 (c .before .before .before .before .before .before .if2 .taken))) (c .before .before .put-two .ensures limit)
+
+cast-put-year : tie.Need-cast-put-year
+cast-put-year c = cast-four _ (four-digits (c .before))
+
+put-year-requires : tie.Need-put-year-requires
+put-year-requires c κs = search needs
+
+same-length-2 : tie.Need-same-length-2
+same-length-2 c = search needs
+
+returns-2 : tie.Need-returns-2
+returns-2 c = λ limit. said (four-text _ (four-digits (c .before .before .before .before)) (c .before .before .before .before .before .before .before .if5 .taken) (eqb-true (c .before .before .before .before .before .before .before .before .before .before .args .width) 4 (c .before .before .before .before .before .before .if6 .taken))) (c .before .before .put-year .ensures limit)
+
+put-decimal-requires : tie.Need-put-decimal-requires
+put-decimal-requires c κs = search needs
+
+same-length-3 : tie.Need-same-length-3
+same-length-3 c = search needs
+
+returns-3 : tie.Need-returns-3
+returns-3 c = let a = c .before .before .before .before .before .before .before .args in λ limit. as-read (fillWith (a .zeros)) (a .width) (a .v) (c .before .before .before .before .before .before .before .fits .v) (c .before .before .put-decimal .ensures limit)
+
+pub put-quick-spec : {M : Type 1} → statement M
+put-quick-spec =
+    tie.close
+    (tie.spec
+    cast-put-two
+    put-two-requires
+    same-length
+    returns
+    cast-put-year
+    put-year-requires
+    same-length-2
+    returns-2
+    put-decimal-requires
+    same-length-3
+    returns-3)

@@ -1,0 +1,152 @@
+// Ports `format_num_zeros`, `format_num_spaces`, `pad_width` and `format_nanoseconds` of format/mod.rs, and the arms of its `Piece::fmt` that call them.
+ghost use mathlib.Core.Path.{_≡_};
+ghost use mathlib.Core.Bool.{false};
+ghost use mathlib.Core.List.{List, [], _∷_, map};
+ghost use Prim.Native.Nat.{ℕ, _≤_};
+ghost use lib.Dec.{leb};
+ghost use Rattle.rules.specs.declared.Spec.the-variants as spec;
+ghost use Rattle.rules.specs.Event as event;
+ghost use Rattle.rules.specs.Decimal.{fillByte, filled};
+ghost use Rattle.rules.specs.Writing.{numberWrites, fractionDigits, fractionWrites, specEvents};
+ghost use Rattle.text.specs.Ran.{Ran};
+ghost use Rattle.text.specs.Room.{Room};
+ghost use Rattle.printing.specs.FillWith.{fillWith};
+ghost use Rattle.printing.specs.Plain.{plainPiece};
+ghost use Rattle.values.specs.Value.{fillBy};
+use rules::Fraction;
+use rules::Number;
+use rules::Padding;
+use rules::Piece;
+use rules::Record;
+
+// Whether a number is filled with zeros. `space`: its own fill is a space.
+fn fills_zeros(padding: Padding, space: bool) -> bool
+    ensures { λ r. ⌜ fillWith r ≡ fillBy space padding ⌝ }
+{
+    match padding {
+        Padding::Left => !space,
+        Padding::Spaces => false,
+        Padding::Zeros => true,
+    }
+}
+
+fn fill_byte(zeros: bool) -> u8
+    ensures { λ r. ⌜ r ≡ fillByte (fillWith zeros) ⌝ }
+{
+    if zeros { b'0' } else { b' ' }
+}
+
+// The excess of a width above 65,535 is padded first, before any sign.
+fn format_num(
+    out: &mut [u8],
+    at: usize,
+    room: usize,
+    limit: usize,
+    v: i64,
+    width: usize,
+    zeros: bool,
+) -> usize
+    requires { ⌜ Room (now out) room × (65536 ≤ limit) ⌝ }
+    ensures { λ r. ⌜ Ran limit room (map event.write (numberWrites false (fillWith zeros) width v)) (now (out .entry)) at (now (out .exit)) r ⌝ }
+{
+    if width <= 65535 {
+        return printing::put_decimal(out, at, room, v, width, zeros);
+    }
+    let next = printing::put_padding(out, at, room, limit, fill_byte(zeros), width, 65535);
+    printing::put_decimal(out, next, room, v, 65535, zeros)
+}
+
+pub fn number(
+    out: &mut [u8],
+    at: usize,
+    room: usize,
+    limit: usize,
+    piece: Piece,
+    number: Number,
+    record: Record,
+) -> usize
+    requires { ⌜ Room (now out) room × (65536 ≤ limit) ⌝ }
+    ensures { λ r. ⌜ ((zone : List ℕ) → Ran limit room (specEvents (spec.Number number) piece «record» zone) (now (out .entry)) at (now (out .exit)) r) ⌝ }
+{
+    let value = values::value_of(number, record);
+    if !value.ok {
+        return text::checked(at, false, 1);
+    }
+    if piece.flags.left {
+        return printing::put_decimal(out, at, room, value.number, 1, true);
+    }
+    let given = piece.width;
+    let padding = piece.padding;
+    let width = printing::width_or(given, value.width);
+    let zeros = fills_zeros(padding, value.space);
+    format_num(out, at, room, limit, value.number, width, zeros)
+}
+
+// `put_decimal`, with two and four digits at once where the number has no more.
+fn put_quick(out: &mut [u8], at: usize, room: usize, v: i64, width: usize, zeros: bool) -> usize
+    requires { ⌜ Room (now out) room × (width ≤ 65535) ⌝ }
+    ensures { λ r. ⌜ ((limit : ℕ) → Ran limit room (event.write (event.put (filled (fillWith zeros) width v)) ∷ []) (now (out .entry)) at (now (out .exit)) r) ⌝ }
+{
+    if zeros && width == 2 && 0 <= v && v < 100 {
+        return text::put_two(out, at, room, v as u8);
+    }
+    if zeros && width == 4 && 0 <= v && v < 10000 {
+        return printing::put_year(out, at, room, v as i32);
+    }
+    printing::put_decimal(out, at, room, v, width, zeros)
+}
+
+pub fn plain_number(out: &mut [u8], at: usize, room: usize, number: Number, record: Record) -> usize
+    requires { ⌜ Room (now out) room ⌝ }
+    ensures { λ r. ⌜ ((limit : ℕ) (zone : List ℕ) → 65536 ≤ limit → Ran limit room (specEvents (spec.Number number) (plainPiece (spec.Number number)) «record» zone) (now (out .entry)) at (now (out .exit)) r) ⌝ }
+{
+    let value = values::value_of(number, record);
+    if !value.ok {
+        return text::checked(at, false, 1);
+    }
+    put_quick(out, at, room, value.number, value.width, !value.space)
+}
+
+pub fn fraction_digits(fraction: Fraction) -> usize
+    ensures { λ r. ⌜ r ≡ fractionDigits fraction ⌝ }
+{
+    match fraction {
+        Fraction::MilliSecond => 3,
+        Fraction::FractionalSecond => 9,
+    }
+}
+
+// Above nine digits zeros follow, by one pad.
+fn format_nanoseconds(
+    out: &mut [u8],
+    at: usize,
+    room: usize,
+    limit: usize,
+    width: usize,
+    nanoseconds: u32,
+) -> usize
+    requires { ⌜ Room (now out) room × (65536 ≤ limit) ⌝ }
+    ensures { λ r. ⌜ Ran limit room (map event.write (fractionWrites width nanoseconds)) (now (out .entry)) at (now (out .exit)) r ⌝ }
+{
+    if width <= 9 {
+        let value = nanoseconds / numbers::power(9 - width);
+        return text::put_places(out, at, room, width, value as u64);
+    }
+    let next = text::put_places(out, at, room, 9, nanoseconds as u64);
+    text::pad(out, next, room, limit, b'0', width - 9)
+}
+
+pub fn fraction(
+    out: &mut [u8],
+    at: usize,
+    room: usize,
+    limit: usize,
+    width: usize,
+    nanoseconds: u32,
+) -> usize
+    requires { ⌜ Room (now out) room × (65536 ≤ limit) ⌝ }
+    ensures { λ r. ⌜ Ran limit room (event.check (leb nanoseconds 999999999) 1 ∷ map event.write (fractionWrites width nanoseconds)) (now (out .entry)) at (now (out .exit)) r ⌝ }
+{
+    let next = text::checked(at, nanoseconds <= 999_999_999, 1);
+    format_nanoseconds(out, next, room, limit, width, nanoseconds)
+}

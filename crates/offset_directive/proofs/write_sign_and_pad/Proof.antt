@@ -1,0 +1,46 @@
+-- A pad of spaces and the sign, or the sign and a pad of zeros.
+use mathlib.Core.Path.{_≡_}
+use Rattle.rules.specs.Offset.{signAndPad}
+use Rattle.text.proofs.RanLaws.{_then_}
+use borrow.Author.Needs.{needs}
+use Rattle.offset_directive.proofs.write_sign_and_pad.Statement.{statement}
+use Rattle.offset_directive.proofs.write_sign_and_pad.Tie as tie
+
+pad-requires : tie.Need-pad-requires
+pad-requires c κs = search needs
+
+write-hour-sign-requires : tie.Need-write-hour-sign-requires
+write-hour-sign-requires c κs = search needs
+
+same-length : tie.Need-same-length
+same-length c = search needs
+
+returns : tie.Need-returns
+unfolding signAndPad
+returns c = rw (c .before .before .before .before .before .before .before .before .if1 .taken) (c .before .before .before .before .before .before .pad .ensures then c .before .before .write-hour-sign .ensures _)
+
+write-hour-sign-requires-2 : tie.Need-write-hour-sign-requires-2
+write-hour-sign-requires-2 c κs = search needs
+
+pad-requires-2 : tie.Need-pad-requires-2
+pad-requires-2 c κs = search needs
+
+same-length-2 : tie.Need-same-length-2
+same-length-2 c = search needs
+
+returns-2 : tie.Need-returns-2
+unfolding signAndPad
+returns-2 c = rw (c .before .before .before .before .before .before .before .before .if1 .left) (c .before .before .before .before .before .before .write-hour-sign2 .ensures _ then c .before .before .pad2 .ensures)
+
+pub write-sign-and-pad-spec : {M : Type 1} → statement M
+write-sign-and-pad-spec =
+    tie.close
+    (tie.spec
+    pad-requires
+    write-hour-sign-requires
+    same-length
+    returns
+    write-hour-sign-requires-2
+    pad-requires-2
+    same-length-2
+    returns-2)

@@ -1,0 +1,73 @@
+-- The parts are those of the offset; the quick way or the general way writes them.
+use mathlib.Core.Path.{_≡_, ap, _∙_}
+use native.Mathlib.Omega.{arith}
+use lib.IntN.{ℤ}
+use mir.Syntax.{w32}
+use mir.ValLaws.{toZ-ofZ}
+use Rattle.rules.specs.Offset.{formOf, lengthOfForm}
+use Rattle.offset.specs.Parts.{partsFor}
+use Rattle.offset_directive.proofs.ShortLaws.{Short, short-is, below-hundred, short-run}
+use Rattle.offset_directive.proofs.PartsLaws.{small-parts, place-is, length-is, of-offset}
+use borrow.Author.Needs.{needs}
+use Rattle.offset_directive.proofs.zone_offset.Statement.{statement}
+use Rattle.offset_directive.proofs.zone_offset.Tie as tie
+
+parts : (c : tie.After-offset-parts) → c .offset-parts .result ≡ partsFor (c .before .before .args .utc-offset) (c .before .before .args .is-utc) (c .before .before .args .left)
+parts c = c .offset-parts .ensures ∙ ap (λ (z : ℤ). partsFor z (c .before .before .args .is-utc) (c .before .before .args .left)) (toZ-ofZ w32 _ (c .before .before .fits .utc-offset))
+
+told-length : (c : tie.After-form-length) → c .form-length .result ≡ lengthOfForm (formOf (c .before .before .before .args .offset) (c .before .before .before .args .utc-offset))
+told-length c = length-is _ _ _ (parts (c .before)) _ (c .form-length .ensures)
+
+short : (c : tie.Then2) → Short (c .before .before .before .before .before .before .args .width) (c .before .before .before .form-length .result) (c .before .before .before .before .before .before .args .spaces) (c .before .before .before .before .offset-parts .result .minus) (c .before .before .before .before .offset-parts .result .hours)
+short c = short-is _ _ _ _ _ (c .before .is-short .ensures) (c .if2 .taken)
+
+offset-parts-requires : tie.Need-offset-parts-requires
+offset-parts-requires c κs = search needs
+
+form-length-requires : tie.Need-form-length-requires
+form-length-requires c κs = search needs
+
+is-short-requires : tie.Need-is-short-requires
+is-short-requires c κs = search needs
+
+cast-hours : tie.Need-cast-hours
+cast-hours c = let k = below-hundred (short (c .before)) in record { fits = omega arith }
+
+write-short-requires : tie.Need-write-short-requires
+write-short-requires c κs = let small = small-parts _ _ _ (parts (c .before .before .before .before .before .before)) in
+    (c .before .before .before .before .before .before .before .before .pre .0, below-hundred (short (c .before .before)), small .minutes, small .seconds)
+
+same-length : tie.Need-same-length
+same-length c = search needs
+
+returns : tie.Need-returns
+returns c = let a = c .before .before .before .before .before .before .before .before .before .before .before .args in
+    let e = parts (c .before .before .before .before .before .before .before .before .before) in
+    let told = told-length (c .before .before .before .before .before .before .before .before) in
+    of-offset _ _ _ e _ _ _
+    (short-run (formOf (a .offset) (a .utc-offset)) (a .width) (a .spaces) (c .before .before .before .before .before .before .before .before .before .offset-parts .result) told (short (c .before .before .before .before .before)) (place-is _ _ _ e) (c .before .before .before .before .before .before .before .if1 .taken)
+    (c .before .before .write-short .ensures _ _ told))
+
+write-long-requires : tie.Need-write-long-requires
+write-long-requires c κs = (c .before .before .before .before .before .pre .0, c .before .before .before .before .before .pre .1, small-parts _ _ _ (parts (c .before .before .before)))
+
+same-length-2 : tie.Need-same-length-2
+same-length-2 c = search needs
+
+returns-2 : tie.Need-returns-2
+returns-2 c = of-offset _ _ _ (parts (c .before .before .before .before .before .before)) _ _ _ (c .before .before .write-long .ensures _ (told-length (c .before .before .before .before .before)))
+
+pub zone-offset-spec : {M : Type 1} → statement M
+zone-offset-spec =
+    tie.close
+    (tie.spec
+    offset-parts-requires
+    form-length-requires
+    is-short-requires
+    cast-hours
+    write-short-requires
+    same-length
+    returns
+    write-long-requires
+    same-length-2
+    returns-2)
