@@ -1,0 +1,124 @@
+// Ports `Piece::fmt` of mod.rs: a directive, by its kind.
+ghost use mathlib.Core.Path.{_≡_};
+ghost use mathlib.Core.Bool.{true};
+ghost use mathlib.Core.List.{List};
+ghost use Prim.Native.Nat.{ℕ, _≤_};
+ghost use Rattle.rules.specs.declared.Record as declared;
+ghost use Rattle.rules.specs.declared.Spec as declaredSpec;
+ghost use Rattle.rules.specs.Writing.{specEvents, eventsOf};
+ghost use Rattle.text.specs.Ran.{Ran};
+ghost use Rattle.text.specs.Room.{Room};
+ghost use Rattle.printing.specs.Plain.{plainPiece};
+use combination_directive::combination;
+use combination_directive::plain_combination;
+use name_directive::fixed;
+use name_directive::name;
+use name_directive::plain_fixed;
+use name_directive::plain_name;
+use name_directive::plain_zone_name;
+use name_directive::zone_name;
+use number_directive::fraction;
+use number_directive::fraction_digits;
+use number_directive::number;
+use number_directive::plain_number;
+use offset_directive::offset;
+use offset_directive::plain_offset;
+use printing::width_or;
+use rules::Padding;
+use rules::Piece;
+use rules::Record;
+use rules::Spec;
+use rules::Width;
+
+// Whether a directive has no flag, no width and the default padding.
+fn is_plain(piece: Piece) -> bool
+    ensures { λ r. ⌜ (r ≡ true → (s : declaredSpec.Spec) (t : declared.Record) (zone : List ℕ) → specEvents s piece t zone ≡ specEvents s (plainPiece s) t zone) ⌝ }
+{
+    let width = piece.width;
+    let Width::Unset = width else {
+        return false;
+    };
+    let padding = piece.padding;
+    let Padding::Left = padding else {
+        return false;
+    };
+    let flags = piece.flags;
+    if flags.left || flags.change {
+        return false;
+    }
+    !flags.upper
+}
+
+fn plain_directive(
+    out: &mut [u8],
+    at: usize,
+    room: usize,
+    limit: usize,
+    spec: Spec,
+    record: Record,
+    zone: &[u8],
+) -> usize
+    requires { ⌜ Room (now out) room × (65536 ≤ limit) ⌝ }
+    ensures { λ r. ⌜ Ran limit room (specEvents spec (plainPiece spec) «record» (now (zone .entry))) (now (out .entry)) at (now (out .exit)) r ⌝ }
+{
+    match spec {
+        Spec::Number(n) => plain_number(out, at, room, n, record),
+        Spec::Name(n) => plain_name(out, at, room, limit, n, record),
+        Spec::Fraction(f) => fraction(out, at, room, limit, fraction_digits(f), record.nanoseconds),
+        Spec::Offset(o) => plain_offset(out, at, room, limit, o, record),
+        Spec::TimeZoneName => plain_zone_name(out, at, room, limit, zone),
+        Spec::Fixed(f) => plain_fixed(out, at, room, limit, f),
+        Spec::Combination(c) => plain_combination(out, at, room, limit, c, record),
+    }
+}
+
+fn other_directive(
+    out: &mut [u8],
+    at: usize,
+    room: usize,
+    limit: usize,
+    piece: Piece,
+    record: Record,
+    zone: &[u8],
+) -> usize
+    requires { ⌜ Room (now out) room × (65536 ≤ limit) ⌝ }
+    ensures { λ r. ⌜ Ran limit room (specEvents (piece .spec) piece «record» (now (zone .entry))) (now (out .entry)) at (now (out .exit)) r ⌝ }
+{
+    let spec = piece.spec;
+    let width = piece.width;
+    match spec {
+        Spec::Number(n) => number(out, at, room, limit, piece, n, record),
+        Spec::Name(n) => name(out, at, room, limit, piece, n, record),
+        Spec::Fraction(f) => fraction(
+            out,
+            at,
+            room,
+            limit,
+            width_or(width, fraction_digits(f)),
+            record.nanoseconds,
+        ),
+        Spec::Offset(o) => offset(out, at, room, limit, piece, o, record),
+        Spec::TimeZoneName => zone_name(out, at, room, limit, piece, zone),
+        Spec::Fixed(f) => fixed(out, at, room, limit, piece, f),
+        Spec::Combination(c) => combination(out, at, room, limit, piece, c, record),
+    }
+}
+
+pub fn directive(
+    out: &mut [u8],
+    at: usize,
+    room: usize,
+    limit: usize,
+    piece: Piece,
+    record: Record,
+    zone: &[u8],
+) -> usize
+    requires { ⌜ Room (now out) room × (65536 ≤ limit) ⌝ }
+    ensures { λ r. ⌜ Ran limit room (eventsOf «record» (now (zone .entry)) piece) (now (out .entry)) at (now (out .exit)) r ⌝ }
+{
+    if is_plain(piece) {
+        let spec = piece.spec;
+        return plain_directive(out, at, room, limit, spec, record, zone);
+    }
+    other_directive(out, at, room, limit, piece, record, zone)
+}
