@@ -1,0 +1,2 @@
+pub mod EntryOutcomes
+pub mod WalkLaws

@@ -1,0 +1,98 @@
+-- Too long; refused, the buffer never lent; a short text copied out of the scratch; a longer one written straight to the buffer.
+use mathlib.Core.Path.{refl, sym}
+use mathlib.Core.List.{List}
+use Prim.Native.Nat.{ℕ, _≤_}
+use native.Mathlib.Omega.{arith}
+use lib.Dec.{lit≤}
+use lib.ListN.{length, replicate}
+use lib.Seq.{length-take-le}
+use Rattle.rules.proofs.FormatLaws.{runs, format-too-long, zone-too-long, buffer-too-long, numbered-items}
+use Rattle.text.proofs.EntryLaws.{lent, lent-holds, lent-back, same-end, inside, back}
+use Rattle.strftime.proofs.EntryOutcomes.{declined, refusal-known, refused-there, written-there, copied-there}
+use borrow.Author.Needs.{needs}
+use Rattle.strftime.proofs.format.Statement.{statement}
+use Rattle.strftime.proofs.format.Tie as tie
+
+abbrev scratch : List ℕ
+scratch = replicate 192 0
+
+returns : tie.Need-returns
+returns c = declined _ (format-too-long _ _ _ _ (c .if1 .taken))
+
+returns-2 : tie.Need-returns-2
+returns-2 c = declined _ (zone-too-long _ _ _ _ (c .before .if1 .left) (c .if2 .taken))
+
+returns-3 : tie.Need-returns-3
+returns-3 c = declined _ (buffer-too-long _ _ _ _ (c .before .before .if1 .left) (c .before .if2 .left) (c .if3 .taken))
+
+part-of-requires : tie.Need-part-of-requires
+part-of-requires c κs = search needs
+
+array-borrow-prefix-small : tie.Need-array-borrow-prefix-small
+array-borrow-prefix-small c = search needs
+
+slice-aggregate-run : tie.Need-slice-aggregate-run
+slice-aggregate-run c = sym (length-take-le _ scratch (omega (arith, c .before .part-of .ensures)))
+
+run-requires : tie.Need-run-requires
+run-requires c κs =
+    let part = c .before .part-of .result in
+    let room = length (c .before .before .before .before .before .before .before .before .args .buffer .now) in
+    let small : part ≤ 192 = omega (arith, c .before .part-of .ensures) in
+    let short : part ≤ room = omega (arith, c .before .part-of .ensures) in
+    (lent part room scratch small short (c .before .before .if3 .left), c .before .before .before .before .if1 .left)
+
+refusal-at-requires : tie.Need-refusal-at-requires
+refusal-at-requires c κs = refusal-known (c .before .before .run .ensures) (numbered-items 4 (lit≤ tt) _ _ _) (c .if4 .taken)
+
+returns-4 : tie.Need-returns-4
+returns-4 c = refused-there (c .before .before .before .run .ensures) _ (runs _ _ _ _ (c .before .before .before .before .before .before .before .before .if1 .left) (c .before .before .before .before .before .before .before .if2 .left) (c .before .before .before .before .before .before .if3 .left)) _ (c .before .if4 .taken) (c .refusal-at .ensures)
+
+run-requires-2 : tie.Need-run-requires-2
+run-requires-2 c κs = search needs
+
+same-length : tie.Need-same-length
+same-length c = search needs
+
+returns-5 : tie.Need-returns-5
+returns-5 c =
+    written-there (c .before .before .run2 .ensures) _ (runs _ _ _ _ (c .before .before .before .before .before .before .before .before .before .before .before .before .if1 .left) (c .before .before .before .before .before .before .before .before .before .before .before .if2 .left) (c .before .before .before .before .before .before .before .before .before .before .if3 .left)) refl refl
+    (omega (arith, same-end (c .before .before .run2 .ensures) (c .before .before .before .before .before .before .before .run .ensures), c .before .before .before .before .before .if4 .left))
+
+slice-aggregate-copy-front : tie.Need-slice-aggregate-copy-front
+slice-aggregate-copy-front c = sym (lent-back (c .before .before .before .before .before .before .before .part-of .result) scratch (c .before .before .before .before .before .run .ensures))
+
+copy-front-requires : tie.Need-copy-front-requires
+copy-front-requires c κs =
+    let w = c .before .before .before .before .before .run .ensures in
+    let held = lent-holds _ _ scratch (omega (arith, c .before .before .before .before .before .before .before .part-of .ensures)) (c .before .before .if5 .left) in
+    (inside w (omega arith) (c .before .before .before .if4 .left), back w _ held)
+
+same-length-2 : tie.Need-same-length-2
+same-length-2 c = search needs
+
+returns-6 : tie.Need-returns-6
+returns-6 c =
+    let held = lent-holds _ _ scratch (omega (arith, c .before .before .before .before .before .before .before .before .before .before .part-of .ensures)) (c .before .before .before .before .before .if5 .left) in
+    copied-there (c .before .before .before .before .before .before .before .before .run .ensures) _ (runs _ _ _ _ (c .before .before .before .before .before .before .before .before .before .before .before .before .before .if1 .left) (c .before .before .before .before .before .before .before .before .before .before .before .before .if2 .left) (c .before .before .before .before .before .before .before .before .before .before .before .if3 .left)) _ (c .before .before .before .before .before .before .if4 .left) held (c .before .before .copy-front .ensures)
+
+pub format-spec : {M : Type 1} → statement M
+format-spec =
+    tie.close
+    (tie.spec
+    returns
+    returns-2
+    returns-3
+    part-of-requires
+    array-borrow-prefix-small
+    slice-aggregate-run
+    run-requires
+    refusal-at-requires
+    returns-4
+    run-requires-2
+    same-length
+    returns-5
+    slice-aggregate-copy-front
+    copy-front-requires
+    same-length-2
+    returns-6)
