@@ -19,7 +19,7 @@ use Rattle.text.specs.Ran.{Ran}
 use Rattle.text.specs.Room.{Room}
 use Rattle.text.proofs.RanLaws.{_then_, same-events, said, told, checks-hold, stopped}
 use Rattle.printing.specs.Plain.{plainPiece}
-use Rattle.combination_directive.specs.Combined.{Combined}
+use Rattle.combination_directive.specs.Combined.{combinedEvents, Combined}
 
 short : {l : List ℕ} {room : ℕ} → Room l room → length l ≤ 65536
 short g = omega (arith, g .within, g .small)
@@ -35,7 +35,7 @@ module _ (c : Combination) (r : Record) {ok : Bool} (checked : (zone : List ℕ)
 
 -- a combination that is known
 pub known : (r : Record) {c d : Combination} {room : ℕ} {upper : Bool} {l l′ : List ℕ} {n n′ : ℕ} → c ≡ d → Combined room d upper r l n l′ n′ → Combined room c upper r l n l′ n′
-known r e w = λ limit f zone u. same-events (ap (λ (x : Combination). check (allOk (combinationFields x) r zone) 1 ∷ write (put (combinationText x f r)) ∷ []) (sym e)) (w limit f zone u)
+known r e w = λ limit f zone u. same-events (ap (λ (x : Combination). combinedEvents x f r zone) (sym e)) (w limit f zone u)
 
 -- ## The pad in front
 

@@ -3,7 +3,6 @@ use mathlib.Core.Path.{_≡_, refl, sym, _∙_}
 use mathlib.Core.Bool.{Bool, true, false, not, _&&_}
 use mathlib.Core.List.{List, [], _∷_}
 use Prim.Native.Nat.{ℕ, _≤_}
-use native.Mathlib.Omega.{arith}
 use borrow.Author.Tests.{leb-true, not-false}
 use Rattle.rules.specs.declared.Record.{Record}
 use Rattle.rules.specs.Record.{Field, month, day, hour, minute, second, nanoseconds, weekday, dayOfYear, zoneName, okField, allOk, within}

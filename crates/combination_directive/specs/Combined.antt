@@ -1,4 +1,4 @@
--- What a combination does after its padding, and a digit that may be a space.
+-- What a combination does after its padding, and the bytes of it that go by a test.
 use mathlib.Core.Path.{_≡_}
 use mathlib.Core.Bool.{Bool, cond}
 use mathlib.Core.List.{List, [], _∷_}

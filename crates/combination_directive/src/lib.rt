@@ -42,32 +42,32 @@ fn date_time(out: &mut [u8], at: usize, room: usize, record: Record, upper: bool
     if !fields::date_time(record) {
         return checked(at, false, 1);
     }
-    let a = day_three(record.day_of_week, upper);
-    let b = month_three(record.month, upper);
-    let d = record.day;
-    let h = record.hour;
-    let m = record.minute;
-    let s = record.second;
+    let week_day_name = day_three(record.day_of_week, upper);
+    let month_name = month_three(record.month, upper);
+    let day = record.day;
+    let hour = record.hour;
+    let minute = record.minute;
+    let second = record.second;
     let text = [
-        a.0,
-        a.1,
-        a.2,
+        week_day_name.0,
+        week_day_name.1,
+        week_day_name.2,
         b' ',
-        b.0,
-        b.1,
-        b.2,
+        month_name.0,
+        month_name.1,
+        month_name.2,
         b' ',
-        spaced_tens(d),
-        ones(d),
+        spaced_tens(day),
+        ones(day),
         b' ',
-        tens(h),
-        ones(h),
+        tens(hour),
+        ones(hour),
         b':',
-        tens(m),
-        ones(m),
+        tens(minute),
+        ones(minute),
         b':',
-        tens(s),
-        ones(s),
+        tens(second),
+        ones(second),
         b' ',
     ];
     let next = put(out, at, room, &text);
@@ -81,18 +81,18 @@ fn date(out: &mut [u8], at: usize, room: usize, record: Record) -> usize
     if !fields::date(record) {
         return checked(at, false, 1);
     }
-    let m = record.month;
-    let d = record.day;
-    let y = numbers::rem_euclid_100(record.year as i64);
+    let month = record.month;
+    let day = record.day;
+    let year = numbers::rem_euclid_100(record.year as i64);
     let text = [
-        tens(m),
-        ones(m),
+        tens(month),
+        ones(month),
         b'/',
-        tens(d),
-        ones(d),
+        tens(day),
+        ones(day),
         b'/',
-        tens(y),
-        ones(y),
+        tens(year),
+        ones(year),
     ];
     put(out, at, room, &text)
 }
@@ -104,9 +104,9 @@ fn iso8601(out: &mut [u8], at: usize, room: usize, record: Record) -> usize
     if !fields::date(record) {
         return checked(at, false, 1);
     }
-    let m = record.month;
-    let d = record.day;
-    let text = [b'-', tens(m), ones(m), b'-', tens(d), ones(d)];
+    let month = record.month;
+    let day = record.day;
+    let text = [b'-', tens(month), ones(month), b'-', tens(day), ones(day)];
     let next = put_year(out, at, room, record.year);
     put(out, next, room, &text)
 }
@@ -119,9 +119,17 @@ fn vms_date(out: &mut [u8], at: usize, room: usize, record: Record) -> usize
     if !fields::date(record) {
         return checked(at, false, 1);
     }
-    let d = record.day;
-    let b = month_three(record.month, true);
-    let text = [spaced_tens(d), ones(d), b'-', b.0, b.1, b.2, b'-'];
+    let day = record.day;
+    let month_name = month_three(record.month, true);
+    let text = [
+        spaced_tens(day),
+        ones(day),
+        b'-',
+        month_name.0,
+        month_name.1,
+        month_name.2,
+        b'-',
+    ];
     let next = put(out, at, room, &text);
     put_decimal(out, next, room, record.year as i64, 4, true)
 }
@@ -140,18 +148,18 @@ fn time12h(out: &mut [u8], at: usize, room: usize, record: Record) -> usize
     if !fields::clock(record) {
         return checked(at, false, 1);
     }
-    let h = values::hour12(record.hour);
-    let m = record.minute;
-    let s = record.second;
+    let hour = values::hour12(record.hour);
+    let minute = record.minute;
+    let second = record.second;
     let text = [
-        tens(h),
-        ones(h),
+        tens(hour),
+        ones(hour),
         b':',
-        tens(m),
-        ones(m),
+        tens(minute),
+        ones(minute),
         b':',
-        tens(s),
-        ones(s),
+        tens(second),
+        ones(second),
         b' ',
         half(record.hour),
         b'M',
@@ -172,9 +180,9 @@ fn hour_minute24h(out: &mut [u8], at: usize, room: usize, record: Record) -> usi
     if !hour_and_minute(record) {
         return checked(at, false, 1);
     }
-    let h = record.hour;
-    let m = record.minute;
-    let text = [tens(h), ones(h), b':', tens(m), ones(m)];
+    let hour = record.hour;
+    let minute = record.minute;
+    let text = [tens(hour), ones(hour), b':', tens(minute), ones(minute)];
     put(out, at, room, &text)
 }
 
@@ -185,18 +193,18 @@ fn time24h(out: &mut [u8], at: usize, room: usize, record: Record) -> usize
     if !fields::clock(record) {
         return checked(at, false, 1);
     }
-    let h = record.hour;
-    let m = record.minute;
-    let s = record.second;
+    let hour = record.hour;
+    let minute = record.minute;
+    let second = record.second;
     let text = [
-        tens(h),
-        ones(h),
+        tens(hour),
+        ones(hour),
         b':',
-        tens(m),
-        ones(m),
+        tens(minute),
+        ones(minute),
         b':',
-        tens(s),
-        ones(s),
+        tens(second),
+        ones(second),
     ];
     put(out, at, room, &text)
 }

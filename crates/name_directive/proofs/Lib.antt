@@ -1,2 +1,3 @@
+pub mod CaseLaws
 pub mod LetterLaws
-pub mod NamedLaws
+pub mod RunLaws

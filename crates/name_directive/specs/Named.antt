@@ -1,7 +1,7 @@
 -- What is written of a name: its pad, its letters by one flag of the code, and a byte in a case.
 use mathlib.Core.Bool.{Bool, cond, not, _||_}
 use mathlib.Core.List.{List, [], _∷_}
-use Prim.Native.Nat.{ℕ}
+use Prim.Native.Nat.{ℕ, _≤_}
 use Rattle.rules.specs.declared.Flags.{Flags}
 use Rattle.rules.specs.declared.Name.{Name}
 use Rattle.rules.specs.declared.Name.the-variants.{MonthName, MonthNameAbbr, MeridianLower, MeridianUpper, WeekDayName, WeekDayNameAbbr}
@@ -9,7 +9,7 @@ use Rattle.rules.specs.declared.Piece.{Piece}
 use Rattle.rules.specs.declared.Record.{Record}
 use Rattle.rules.specs.Ascii.{ascii}
 use Rattle.rules.specs.Event.{Write}
-use Rattle.rules.specs.Name.{upper, lower, inCase, before12, nameOf}
+use Rattle.rules.specs.Name.{dayName, monthName, abbreviated, upper, lower, inCase, before12}
 use Rattle.rules.specs.Writing.{padTo}
 use Rattle.names.specs.Calendar.{caseBy}
 
@@ -30,14 +30,32 @@ capitals WeekDayNameAbbr f = f .change || f .upper
 abbrev pub meridianText : Bool → ℕ → List ℕ
 meridianText capital hour = before12 hour (cond capital (ascii "AM") (ascii "am")) (cond capital (ascii "PM") (ascii "pm"))
 
--- its letters
-unfoldable pub lettersOf : Name → Bool → Record → List ℕ
-lettersOf MonthName capital r = inCase (caseBy capital) (nameOf MonthName r)
-lettersOf MonthNameAbbr capital r = inCase (caseBy capital) (nameOf MonthNameAbbr r)
-lettersOf MeridianLower capital r = meridianText capital (r .hour)
-lettersOf MeridianUpper capital r = meridianText capital (r .hour)
-lettersOf WeekDayName capital r = inCase (caseBy capital) (nameOf WeekDayName r)
-lettersOf WeekDayNameAbbr capital r = inCase (caseBy capital) (nameOf WeekDayNameAbbr r)
+-- the number of the record that a name goes by
+unfoldable pub numberOf : Name → Record → ℕ
+numberOf MonthName r = r .month
+numberOf MonthNameAbbr r = r .month
+numberOf MeridianLower r = r .hour
+numberOf MeridianUpper r = r .hour
+numberOf WeekDayName r = r .«day_of_week»
+numberOf WeekDayNameAbbr r = r .«day_of_week»
+
+-- the numbers that have a name
+unfoldable pub Named : Name → ℕ → Type 0
+Named MonthName k = (1 ≤ k) × (k ≤ 12)
+Named MonthNameAbbr k = (1 ≤ k) × (k ≤ 12)
+Named MeridianLower k = Unit {0}
+Named MeridianUpper k = Unit {0}
+Named WeekDayName k = k ≤ 6
+Named WeekDayNameAbbr k = k ≤ 6
+
+-- and its letters
+unfoldable pub lettersOf : Name → Bool → ℕ → List ℕ
+lettersOf MonthName capital k = inCase (caseBy capital) (monthName k)
+lettersOf MonthNameAbbr capital k = inCase (caseBy capital) (abbreviated (monthName k))
+lettersOf MeridianLower capital k = meridianText capital k
+lettersOf MeridianUpper capital k = meridianText capital k
+lettersOf WeekDayName capital k = inCase (caseBy capital) (dayName k)
+lettersOf WeekDayNameAbbr capital k = inCase (caseBy capital) (abbreviated (dayName k))
 
 -- a byte lowered, or else raised
 abbrev pub byteIn : Bool → ℕ → ℕ

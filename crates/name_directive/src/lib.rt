@@ -1,6 +1,6 @@
 // Ports `format_string` of format/mod.rs, and the arms of its `Piece::fmt` that write names and single bytes.
 ghost use mathlib.Core.Path.{_≡_};
-ghost use mathlib.Core.Bool.{true};
+ghost use mathlib.Core.Bool.{Bool};
 ghost use mathlib.Core.List.{List, [], _∷_, map};
 ghost use Prim.Native.Nat.{ℕ, _+_, _≤_};
 ghost use lib.ListN.{length};
@@ -8,14 +8,14 @@ ghost use Rattle.rules.specs.declared.Record as declared;
 ghost use Rattle.rules.specs.declared.Spec.the-variants as spec;
 ghost use Rattle.rules.specs.Event as event;
 ghost use Rattle.rules.specs.Name as letter;
-ghost use Rattle.rules.specs.Name.{inCase, nameOf, zoneCase};
+ghost use Rattle.rules.specs.Name.{inCase, zoneCase};
 ghost use Rattle.rules.specs.Record.{allOk};
 ghost use Rattle.rules.specs.Writing.{nameFields, fixedByte, specEvents};
 ghost use Rattle.text.specs.Overlay.{overlay};
 ghost use Rattle.text.specs.Ran.{Ran};
 ghost use Rattle.text.specs.Room.{Room};
 ghost use Rattle.printing.specs.Plain.{plainPiece};
-ghost use Rattle.name_directive.specs.Named.{padding, capitals, lettersOf, byteIn};
+ghost use Rattle.name_directive.specs.Named.{padding, capitals, numberOf, Named, lettersOf, byteIn};
 use names::calendar;
 use rules::Fixed;
 use rules::Flags;
@@ -69,43 +69,50 @@ fn in_capitals(name: Name, flags: Flags) -> bool
     }
 }
 
-fn name_length(name: Name, record: Record) -> usize
-    requires { ⌜ allOk (nameFields name) «record» [] ≡ true ⌝ }
-    ensures { λ r. ⌜ r ≡ length (nameOf name «record») ⌝ }
+// The number of the record that a name goes by.
+fn number_of(name: Name, record: Record) -> u8
+    ensures { λ r. ⌜ r ≡ numberOf name «record» ⌝ }
 {
     match name {
-        Name::MonthName => calendar::month_length(record.month),
+        Name::MonthName => record.month,
+        Name::MonthNameAbbr => record.month,
+        Name::MeridianLower => record.hour,
+        Name::MeridianUpper => record.hour,
+        Name::WeekDayName => record.day_of_week,
+        Name::WeekDayNameAbbr => record.day_of_week,
+    }
+}
+
+fn name_length(name: Name, number: u8) -> usize
+    requires { ⌜ Named name number ⌝ }
+    ensures { λ r. ⌜ ((capital : Bool) → r ≡ length (lettersOf name capital number)) ⌝ }
+{
+    match name {
+        Name::MonthName => calendar::month_length(number),
         Name::MonthNameAbbr => 3,
         Name::MeridianLower => 2,
         Name::MeridianUpper => 2,
-        Name::WeekDayName => calendar::day_length(record.day_of_week),
+        Name::WeekDayName => calendar::day_length(number),
         Name::WeekDayNameAbbr => 3,
     }
 }
 
-fn put_name(
-    out: &mut [u8],
-    at: usize,
-    room: usize,
-    name: Name,
-    record: Record,
-    capital: bool,
-) -> usize
-    requires { ⌜ Room (now out) room × (allOk (nameFields name) «record» [] ≡ true) ⌝ }
-    ensures { λ r. ⌜ ((limit : ℕ) → Ran limit room (event.write (event.put (lettersOf name capital «record»)) ∷ []) (now (out .entry)) at (now (out .exit)) r) ⌝ }
+fn put_name(out: &mut [u8], at: usize, room: usize, name: Name, number: u8, capital: bool) -> usize
+    requires { ⌜ Room (now out) room × Named name number ⌝ }
+    ensures { λ r. ⌜ ((limit : ℕ) → Ran limit room (event.write (event.put (lettersOf name capital number)) ∷ []) (now (out .entry)) at (now (out .exit)) r) ⌝ }
 {
     match name {
-        Name::MonthName => calendar::put_month(out, at, room, record.month, capital),
+        Name::MonthName => calendar::put_month(out, at, room, number, capital),
         Name::MonthNameAbbr => {
-            let three = calendar::month_three(record.month, capital);
+            let three = calendar::month_three(number, capital);
             calendar::put_three(out, at, room, three)
         }
         Name::MeridianLower | Name::MeridianUpper => {
-            calendar::put_meridian(out, at, room, record.hour, capital)
+            calendar::put_meridian(out, at, room, number, capital)
         }
-        Name::WeekDayName => calendar::put_day(out, at, room, record.day_of_week, capital),
+        Name::WeekDayName => calendar::put_day(out, at, room, number, capital),
         Name::WeekDayNameAbbr => {
-            let three = calendar::day_three(record.day_of_week, capital);
+            let three = calendar::day_three(number, capital);
             calendar::put_three(out, at, room, three)
         }
     }
@@ -125,8 +132,9 @@ pub fn name(
 {
     if in_range(name, record) {
         let flags = piece.flags;
-        let next = string_padding(out, at, room, limit, piece, name_length(name, record));
-        return put_name(out, next, room, name, record, in_capitals(name, flags));
+        let number = number_of(name, record);
+        let next = string_padding(out, at, room, limit, piece, name_length(name, number));
+        return put_name(out, next, room, name, number, in_capitals(name, flags));
     }
     text::checked(at, false, 1)
 }
@@ -143,7 +151,8 @@ pub fn plain_name(
     ensures { λ r. ⌜ ((zone : List ℕ) → Ran limit room (specEvents (spec.Name name) (plainPiece (spec.Name name)) «record» zone) (now (out .entry)) at (now (out .exit)) r) ⌝ }
 {
     if in_range(name, record) {
-        return put_name(out, at, room, name, record, in_capitals(name, Flags::new()));
+        let number = number_of(name, record);
+        return put_name(out, at, room, name, number, in_capitals(name, Flags::new()));
     }
     text::checked(at, false, 1)
 }
@@ -194,8 +203,11 @@ fn put_zone(out: &mut [u8], at: usize, room: usize, zone: &[u8], flags: Flags) -
     requires { ⌜ Room (now out) room ⌝ }
     ensures { λ r. ⌜ ((limit : ℕ) → Ran limit room (event.write (event.put (inCase (zoneCase flags) (now (zone .entry)))) ∷ []) (now (out .entry)) at (now (out .exit)) r) ⌝ }
 {
-    if flags.has_change_or_upper_case() {
-        return put_cased(out, at, room, zone, flags.change);
+    if flags.change {
+        return put_cased(out, at, room, zone, true);
+    }
+    if flags.upper {
+        return put_cased(out, at, room, zone, false);
     }
     text::put(out, at, room, zone)
 }

@@ -13,7 +13,7 @@ use Rattle.rules.specs.declared.Record.{Record}
 use Rattle.rules.specs.declared.Spec.the-variants.{Number as number}
 use Rattle.rules.specs.Event.{put, pad, write, check}
 use Rattle.rules.specs.Decimal.{Fill, zeros, fillByte, filled}
-use Rattle.rules.specs.Writing.{widthOr, defaultWidth, valueOf, fillOf, numberWrites, fieldsOf, leadOf, bodyOf, specEvents}
+use Rattle.rules.specs.Writing.{widthOr, defaultWidth, valueOf, numberWrites, fieldsOf, leadOf, bodyOf, specEvents}
 use Rattle.rules.proofs.DecimalLaws.{filled-plain, length-text-from}
 use Rattle.text.specs.Ran.{Ran}
 use Rattle.text.proofs.RanLaws.{_then_, same-events, said, told, pad-none, checks-hold, stopped}

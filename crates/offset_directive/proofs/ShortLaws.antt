@@ -8,7 +8,7 @@ use native.Mathlib.Omega.{arith}
 use lib.Dec.{ltb}
 use lib.ListN.{replicate}
 use borrow.Author.Tests.{lt-ltb, le-ltb, ltb-true, ltb-false}
-use Rattle.rules.specs.Decimal.{digits, digitCount, two, zeros}
+use Rattle.rules.specs.Decimal.{digits, digitCount, two}
 use Rattle.rules.specs.Event.{put, pad, write}
 use Rattle.rules.specs.Offset.{Form, extra, lengthOfForm, signOf, signAndPad}
 use Rattle.rules.proofs.DecimalLaws.{count-pos, count-small, count-is, places-padded}

@@ -234,7 +234,6 @@ fn form_length(offset: Offset, minute: u8, second: u8) -> usize
     }
 }
 
-// A room below the limit: the one zero that a short offset may pad is then refused by the room alone.
 pub fn zone_offset(
     out: &mut [u8],
     at: usize,
@@ -254,6 +253,7 @@ pub fn zone_offset(
     let minute = parts.minute;
     let second = parts.second;
     let length = form_length(offset, minute, second);
+    // Behind a sign that ends at the room, a zero is refused by the room (4) only if the limit lies beyond it.
     if room < limit && is_short(width, length, spaces, parts.minus, parts.hours) {
         let hours = parts.hours as u8;
         return write_short(out, at, room, parts.minus, hours, minute, second, length);

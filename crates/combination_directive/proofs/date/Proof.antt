@@ -70,13 +70,21 @@ put-requires c κs = search needs
 same-length : tie.Need-same-length
 same-length c = search needs
 
+months : (c : tie.After-ones) → c .before .tens .result ∷ c .ones .result ∷ [] ≡ two (c .before .before .before .before .before .before .before .before .args .«record» .month)
+months c = pair _ (omega (arith, ranges (c .before .before .before .before .before))) (c .before .tens .ensures) (c .ones .ensures)
+
+days : (c : tie.After-ones2) → c .before .tens2 .result ∷ c .ones2 .result ∷ [] ≡ two (c .before .before .before .before .before .before .before .before .before .before .args .«record» .day)
+days c = pair _ (omega (arith, ranges (c .before .before .before .before .before .before .before))) (c .before .tens2 .ensures) (c .ones2 .ensures)
+
+years : (c : tie.After-ones3) → c .before .tens3 .result ∷ c .ones3 .result ∷ [] ≡ two (floorMod (c .before .before .before .before .before .before .before .before .before .before .before .before .args .«record» .year) 100)
+years c = pair _ (below (c .before .before .before .before .before .before)) (c .before .tens3 .ensures) (c .ones3 .ensures) ∙ ap two (year-is (c .before .before .before .before .before .before))
+
 returns-2 : tie.Need-returns-2
 unfolding combinationFields flatten
 returns-2 c =
-    let s = c .before .before .before .before .before .before .before .before .before .before .before .before .before .before .before .before .before in
-    let k = ranges (c .before .before .before .before .before .before .before .before .before .before .before .before .before .before) in
-    λ upper. written CombinationDate _ (c .before .before .before .before .before .before .before .before .before .before .before .before .before .before .before .date .ensures) (c .before .before .before .before .before .before .before .before .before .before .before .before .before .before .if1 .left)
-    (λ f e. date-text f (s .args .«record») (pair _ (omega (arith, k)) (c .before .before .before .before .before .before .before .before .before .before .tens .ensures) (c .before .before .before .before .before .before .before .before .before .ones .ensures)) (pair _ (omega (arith, k)) (c .before .before .before .before .before .before .before .before .tens2 .ensures) (c .before .before .before .before .before .before .before .ones2 .ensures)) (pair _ (below (c .before .before .before .before .before .before .before .before .before .before .before)) (c .before .before .before .before .before .before .tens3 .ensures) (c .before .before .before .before .before .ones3 .ensures) ∙ ap two (year-is (c .before .before .before .before .before .before .before .before .before .before .before))))
+    λ upper.
+    written CombinationDate _ (c .before .before .before .before .before .before .before .before .before .before .before .before .before .before .before .date .ensures) (c .before .before .before .before .before .before .before .before .before .before .before .before .before .before .if1 .left)
+    (λ f e. date-text f (c .before .before .before .before .before .before .before .before .before .before .before .before .before .before .before .before .before .args .«record») (months (c .before .before .before .before .before .before .before .before .before)) (days (c .before .before .before .before .before .before .before)) (years (c .before .before .before .before .before)))
     (c .before .before .put .ensures)
 
 pub date-spec : {M : Type 1} → statement M

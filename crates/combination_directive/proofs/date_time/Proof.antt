@@ -1,12 +1,13 @@
 -- The fields checked; the names, the day, the time and the year put.
-use mathlib.Core.Path.{ap}
+use mathlib.Core.Path.{_≡_, ap}
 use mathlib.Core.List.{[], _∷_, flatten}
 use native.Mathlib.Omega.{arith}
 use mir.Syntax.{w32}
 use mir.ValLaws.{toZ-ofZ}
 use Rattle.rules.specs.declared.Combination.the-variants.{CombinationDateTime}
+use Rattle.rules.specs.Decimal.{two}
 use Rattle.rules.specs.Record.{month, day, hour, minute, second, weekday}
-use Rattle.rules.specs.Writing.{yearText, combinationFields}
+use Rattle.rules.specs.Writing.{yearText, dayText, combinationFields}
 use Rattle.text.proofs.RanLaws.{_then_, joined}
 use Rattle.combination_directive.proofs.RangeLaws.{Each, in-range}
 use Rattle.combination_directive.proofs.TextLaws.{pair, spaced-pair, date-time-text}
@@ -71,13 +72,24 @@ put-year-requires c κs = search needs
 same-length : tie.Need-same-length
 same-length c = search needs
 
+days : (c : tie.After-ones) → c .before .spaced-tens .result ∷ c .ones .result ∷ [] ≡ dayText (c .before .before .before .before .before .before .before .args .«record» .day)
+days c = spaced-pair _ (omega (arith, ranges (c .before .before .before .before))) (c .before .spaced-tens .ensures) (c .ones .ensures)
+
+hours : (c : tie.After-ones2) → c .before .tens .result ∷ c .ones2 .result ∷ [] ≡ two (c .before .before .before .before .before .before .before .before .before .args .«record» .hour)
+hours c = pair _ (omega (arith, ranges (c .before .before .before .before .before .before))) (c .before .tens .ensures) (c .ones2 .ensures)
+
+minutes : (c : tie.After-ones3) → c .before .tens2 .result ∷ c .ones3 .result ∷ [] ≡ two (c .before .before .before .before .before .before .before .before .before .before .before .args .«record» .minute)
+minutes c = pair _ (omega (arith, ranges (c .before .before .before .before .before .before .before .before))) (c .before .tens2 .ensures) (c .ones3 .ensures)
+
+seconds : (c : tie.After-ones4) → c .before .tens3 .result ∷ c .ones4 .result ∷ [] ≡ two (c .before .before .before .before .before .before .before .before .before .before .before .before .before .args .«record» .second)
+seconds c = pair _ (omega (arith, ranges (c .before .before .before .before .before .before .before .before .before .before))) (c .before .tens3 .ensures) (c .ones4 .ensures)
+
 returns-2 : tie.Need-returns-2
 unfolding combinationFields flatten
 returns-2 c =
-    let s = c .before .before .before .before .before .before .before .before .before .before .before .before .before .before .before .before .before .before .before .before .before .before .before in
-    let k = ranges (c .before .before .before .before .before .before .before .before .before .before .before .before .before .before .before .before .before .before .before .before) in
+    let r = c .before .before .before .before .before .before .before .before .before .before .before .before .before .before .before .before .before .before .before .before .before .before .before .args .«record» in
     written CombinationDateTime _ (c .before .before .before .before .before .before .before .before .before .before .before .before .before .before .before .before .before .before .before .before .before .date-time .ensures) (c .before .before .before .before .before .before .before .before .before .before .before .before .before .before .before .before .before .before .before .before .if1 .left)
-    (λ f e. date-time-text f (s .args .«record») e (c .before .before .before .before .before .before .before .before .before .before .before .before .before .before .before .before .before .before .before .day-three .ensures) (c .before .before .before .before .before .before .before .before .before .before .before .before .before .before .before .before .before .before .month-three .ensures) (spaced-pair _ (omega (arith, k)) (c .before .before .before .before .before .before .before .before .before .before .before .before .before .before .before .before .before .spaced-tens .ensures) (c .before .before .before .before .before .before .before .before .before .before .before .before .before .before .before .before .ones .ensures)) (pair _ (omega (arith, k)) (c .before .before .before .before .before .before .before .before .before .before .before .before .before .before .before .tens .ensures) (c .before .before .before .before .before .before .before .before .before .before .before .before .before .before .ones2 .ensures)) (pair _ (omega (arith, k)) (c .before .before .before .before .before .before .before .before .before .before .before .before .before .tens2 .ensures) (c .before .before .before .before .before .before .before .before .before .before .before .before .ones3 .ensures)) (pair _ (omega (arith, k)) (c .before .before .before .before .before .before .before .before .before .before .before .tens3 .ensures) (c .before .before .before .before .before .before .before .before .before .before .ones4 .ensures)) (ap yearText (toZ-ofZ w32 (s .args .«record» .year) (search needs))))
+    (λ f e. date-time-text f r e (c .before .before .before .before .before .before .before .before .before .before .before .before .before .before .before .before .before .before .before .day-three .ensures) (c .before .before .before .before .before .before .before .before .before .before .before .before .before .before .before .before .before .before .month-three .ensures) (days (c .before .before .before .before .before .before .before .before .before .before .before .before .before .before .before .before)) (hours (c .before .before .before .before .before .before .before .before .before .before .before .before .before .before)) (minutes (c .before .before .before .before .before .before .before .before .before .before .before .before)) (seconds (c .before .before .before .before .before .before .before .before .before .before)) (ap yearText (toZ-ofZ w32 (r .year) (search needs))))
     (λ limit. joined (c .before .before .before .before .before .before .before .put .ensures limit then c .before .before .put-year .ensures limit))
 
 pub date-time-spec : {M : Type 1} → statement M

@@ -1,10 +1,11 @@
 -- The fields checked; the year and four digits put.
-use mathlib.Core.Path.{ap}
+use mathlib.Core.Path.{_≡_, ap}
 use mathlib.Core.List.{[], _∷_, flatten}
 use native.Mathlib.Omega.{arith}
 use mir.Syntax.{w32}
 use mir.ValLaws.{toZ-ofZ}
 use Rattle.rules.specs.declared.Combination.the-variants.{CombinationIso8601}
+use Rattle.rules.specs.Decimal.{two}
 use Rattle.rules.specs.Record.{month, day}
 use Rattle.rules.specs.Writing.{yearText, combinationFields}
 use Rattle.text.proofs.RanLaws.{_then_, joined}
@@ -52,13 +53,19 @@ put-requires c κs = search needs
 same-length : tie.Need-same-length
 same-length c = search needs
 
+months : (c : tie.After-ones) → c .before .tens .result ∷ c .ones .result ∷ [] ≡ two (c .before .before .before .before .before .args .«record» .month)
+months c = pair _ (omega (arith, ranges (c .before .before))) (c .before .tens .ensures) (c .ones .ensures)
+
+days : (c : tie.After-ones2) → c .before .tens2 .result ∷ c .ones2 .result ∷ [] ≡ two (c .before .before .before .before .before .before .before .args .«record» .day)
+days c = pair _ (omega (arith, ranges (c .before .before .before .before))) (c .before .tens2 .ensures) (c .ones2 .ensures)
+
 returns-2 : tie.Need-returns-2
 unfolding combinationFields flatten
 returns-2 c =
-    let s = c .before .before .before .before .before .before .before .before .before .before .before .before .before .before .before .before .before in
-    let k = ranges (c .before .before .before .before .before .before .before .before .before .before .before .before .before .before) in
-    λ upper. written CombinationIso8601 _ (c .before .before .before .before .before .before .before .before .before .before .before .before .before .before .before .date .ensures) (c .before .before .before .before .before .before .before .before .before .before .before .before .before .before .if1 .left)
-    (λ f e. iso8601-text f (s .args .«record») (ap yearText (toZ-ofZ w32 (s .args .«record» .year) (search needs))) (pair _ (omega (arith, k)) (c .before .before .before .before .before .before .before .before .before .before .before .before .before .tens .ensures) (c .before .before .before .before .before .before .before .before .before .before .before .before .ones .ensures)) (pair _ (omega (arith, k)) (c .before .before .before .before .before .before .before .before .before .before .before .tens2 .ensures) (c .before .before .before .before .before .before .before .before .before .before .ones2 .ensures)))
+    let r = c .before .before .before .before .before .before .before .before .before .before .before .before .before .before .before .before .before .args .«record» in
+    λ upper.
+    written CombinationIso8601 _ (c .before .before .before .before .before .before .before .before .before .before .before .before .before .before .before .date .ensures) (c .before .before .before .before .before .before .before .before .before .before .before .before .before .before .if1 .left)
+    (λ f e. iso8601-text f r (ap yearText (toZ-ofZ w32 (r .year) (search needs))) (months (c .before .before .before .before .before .before .before .before .before .before .before .before)) (days (c .before .before .before .before .before .before .before .before .before .before)))
     (λ limit. joined (c .before .before .before .before .before .before .before .put-year .ensures limit then c .before .before .put .ensures limit))
 
 pub iso8601-spec : {M : Type 1} → statement M

@@ -6,7 +6,7 @@ use native.Mathlib.Omega.{arith}
 use Rattle.rules.specs.declared.Combination.the-variants.{CombinationTime12h}
 use Rattle.rules.specs.Decimal.{two}
 use Rattle.rules.specs.Record.{hour, minute, second}
-use Rattle.rules.specs.Writing.{combinationFields}
+use Rattle.rules.specs.Writing.{hour12, combinationFields}
 use Rattle.combination_directive.proofs.RangeLaws.{Each, in-range}
 use Rattle.combination_directive.proofs.TextLaws.{hour12-below, pair, halves, time12h-text}
 use Rattle.combination_directive.proofs.CombinedLaws.{failed, written}
@@ -63,13 +63,22 @@ put-requires c κs = search needs
 same-length : tie.Need-same-length
 same-length c = search needs
 
+hours : (c : tie.After-ones) → c .before .tens .result ∷ c .ones .result ∷ [] ≡ two (hour12 (c .before .before .before .before .before .before .args .«record» .hour))
+hours c = pair _ (below (c .before .before)) (c .before .tens .ensures) (c .ones .ensures) ∙ ap two (c .before .before .hour12 .ensures)
+
+minutes : (c : tie.After-ones2) → c .before .tens2 .result ∷ c .ones2 .result ∷ [] ≡ two (c .before .before .before .before .before .before .before .before .args .«record» .minute)
+minutes c = pair _ (omega (arith, ranges (c .before .before .before .before .before))) (c .before .tens2 .ensures) (c .ones2 .ensures)
+
+seconds : (c : tie.After-ones3) → c .before .tens3 .result ∷ c .ones3 .result ∷ [] ≡ two (c .before .before .before .before .before .before .before .before .before .before .args .«record» .second)
+seconds c = pair _ (omega (arith, ranges (c .before .before .before .before .before .before .before))) (c .before .tens3 .ensures) (c .ones3 .ensures)
+
 returns-2 : tie.Need-returns-2
 unfolding combinationFields flatten
 returns-2 c =
-    let s = c .before .before .before .before .before .before .before .before .before .before .before .before .before .before .before .before in
-    let k = ranges (c .before .before .before .before .before .before .before .before .before .before .before .before .before) in
-    λ upper. written CombinationTime12h _ (c .before .before .before .before .before .before .before .before .before .before .before .before .before .before .clock .ensures) (c .before .before .before .before .before .before .before .before .before .before .before .before .before .if1 .left)
-    (λ f e. time12h-text f (s .args .«record») (pair _ (below (c .before .before .before .before .before .before .before .before .before .before .before .before)) (c .before .before .before .before .before .before .before .before .before .before .before .tens .ensures) (c .before .before .before .before .before .before .before .before .before .before .ones .ensures) ∙ ap two (c .before .before .before .before .before .before .before .before .before .before .before .before .hour12 .ensures)) (pair _ (omega (arith, k)) (c .before .before .before .before .before .before .before .before .before .tens2 .ensures) (c .before .before .before .before .before .before .before .before .ones2 .ensures)) (pair _ (omega (arith, k)) (c .before .before .before .before .before .before .before .tens3 .ensures) (c .before .before .before .before .before .before .ones3 .ensures)) (halves (s .args .«record» .hour) (c .before .before .before .before .before .half .ensures)))
+    let r = c .before .before .before .before .before .before .before .before .before .before .before .before .before .before .before .before .args .«record» in
+    λ upper.
+    written CombinationTime12h _ (c .before .before .before .before .before .before .before .before .before .before .before .before .before .before .clock .ensures) (c .before .before .before .before .before .before .before .before .before .before .before .before .before .if1 .left)
+    (λ f e. time12h-text f r (hours (c .before .before .before .before .before .before .before .before .before .before)) (minutes (c .before .before .before .before .before .before .before .before)) (seconds (c .before .before .before .before .before .before)) (halves (r .hour) (c .before .before .before .before .before .half .ensures)))
     (c .before .before .put .ensures)
 
 pub time12h-spec : {M : Type 1} → statement M

@@ -1,11 +1,10 @@
 -- The fields checked; the day, the raised month and the year put.
-use mathlib.Core.Path.{ap}
+use mathlib.Core.Path.{_≡_, ap}
 use mathlib.Core.List.{[], _∷_, flatten}
 use native.Mathlib.Omega.{arith}
-use lib.IntN.{ℤ}
 use Rattle.rules.specs.declared.Combination.the-variants.{CombinationVmsDate}
 use Rattle.rules.specs.Record.{month, day}
-use Rattle.rules.specs.Writing.{vmsYear, combinationFields}
+use Rattle.rules.specs.Writing.{vmsYear, dayText, combinationFields}
 use Rattle.text.proofs.RanLaws.{_then_, joined}
 use Rattle.numbers.proofs.Signed.{widened}
 use Rattle.values.proofs.Laws.{widens}
@@ -53,13 +52,16 @@ put-decimal-requires c κs = search needs
 same-length : tie.Need-same-length
 same-length c = search needs
 
+days : (c : tie.After-ones) → c .before .spaced-tens .result ∷ c .ones .result ∷ [] ≡ dayText (c .before .before .before .before .before .before .args .«record» .day)
+days c = spaced-pair _ (omega (arith, ranges (c .before .before .before))) (c .before .spaced-tens .ensures) (c .ones .ensures)
+
 returns-2 : tie.Need-returns-2
 unfolding combinationFields flatten
 returns-2 c =
-    let s = c .before .before .before .before .before .before .before .before .before .before .before .before .before .before .before .before .before in
-    let k = ranges (c .before .before .before .before .before .before .before .before .before .before .before .before .before .before) in
-    λ upper. written CombinationVmsDate _ (c .before .before .before .before .before .before .before .before .before .before .before .before .before .before .before .date .ensures) (c .before .before .before .before .before .before .before .before .before .before .before .before .before .before .if1 .left)
-    (λ f e. vms-date-text f (s .args .«record») (spaced-pair _ (omega (arith, k)) (c .before .before .before .before .before .before .before .before .before .before .before .before .spaced-tens .ensures) (c .before .before .before .before .before .before .before .before .before .before .before .ones .ensures)) (c .before .before .before .before .before .before .before .before .before .before .before .before .before .month-three .ensures) (ap vmsYear (widened (s .args .«record» .year) (search needs))))
+    let r = c .before .before .before .before .before .before .before .before .before .before .before .before .before .before .before .before .before .args .«record» in
+    λ upper.
+    written CombinationVmsDate _ (c .before .before .before .before .before .before .before .before .before .before .before .before .before .before .before .date .ensures) (c .before .before .before .before .before .before .before .before .before .before .before .before .before .before .if1 .left)
+    (λ f e. vms-date-text f r (days (c .before .before .before .before .before .before .before .before .before .before .before)) (c .before .before .before .before .before .before .before .before .before .before .before .before .before .month-three .ensures) (ap vmsYear (widened (r .year) (search needs))))
     (λ limit. joined (c .before .before .before .before .before .before .before .before .put .ensures limit then c .before .before .put-decimal .ensures limit))
 
 pub vms-date-spec : {M : Type 1} → statement M

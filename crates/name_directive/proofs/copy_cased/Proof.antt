@@ -6,7 +6,7 @@ use borrow.Author.Needs.{needs}
 use lib.ListN.{length, length-map}
 use Rattle.text.proofs.OverlayLaws.{Laid, laid-none, laid-all}
 use Rattle.name_directive.specs.Named.{byteIn}
-use Rattle.name_directive.proofs.LetterLaws.{laid-through}
+use Rattle.name_directive.proofs.CaseLaws.{laid-through}
 use Rattle.name_directive.proofs.copy_cased.Statement.{statement}
 use Rattle.name_directive.proofs.copy_cased.Tie as tie
 
@@ -38,7 +38,9 @@ loop-less : tie.Need-loop-less Inv-loop μ-loop
 loop-less c = omega arith
 
 loop-again : tie.Need-loop-again Inv-loop μ-loop
-loop-again c = (omega arith, laid-through (byteIn (c .before .before .before .before .before .before .args .lowered)) (c .before .before .before .before .before .before .args .src .now) (c .before .before .before .loop .inv .1) (c .before .before .loop-test .taken) (c .cased .ensures))
+loop-again c =
+    let a = c .before .before .before .before .before .before .args in
+    (omega arith, laid-through (byteIn (a .lowered)) (a .src .now) (c .before .before .before .loop .inv .1) (c .before .before .loop-test .taken) (c .cased .ensures))
 
 same-length : tie.Need-same-length Inv-loop μ-loop
 same-length c = search needs

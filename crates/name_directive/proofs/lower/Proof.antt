@@ -3,7 +3,7 @@ use mathlib.Core.Logic.{⊎-elim}
 use native.Mathlib.Omega.{arith}
 use borrow.Author.Tests.{leb-true}
 use Rattle.rules.specs.Name.{lower}
-use Rattle.name_directive.proofs.LetterLaws.{inside, above, below}
+use Rattle.name_directive.proofs.CaseLaws.{inside, above, below}
 use Rattle.name_directive.proofs.lower.Statement.{statement}
 use Rattle.name_directive.proofs.lower.Tie as tie
 

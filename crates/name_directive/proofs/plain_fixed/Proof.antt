@@ -1,5 +1,5 @@
 -- The byte alone.
-use Rattle.name_directive.proofs.NamedLaws.{plain-fixed-written}
+use Rattle.name_directive.proofs.RunLaws.{plain-fixed-written}
 use borrow.Author.Needs.{needs}
 use Rattle.name_directive.proofs.plain_fixed.Statement.{statement}
 use Rattle.name_directive.proofs.plain_fixed.Tie as tie
@@ -14,7 +14,9 @@ same-length : tie.Need-same-length
 same-length c = search needs
 
 returns : tie.Need-returns
-returns c = λ r zone. plain-fixed-written (c .before .before .before .before .before .before .args .fixed) r zone (c .before .before .before .fixed-byte .ensures) (c .before .before .before .before .before .before .pre .1) (c .before .before .put-byte .ensures _)
+returns c =
+    let s = c .before .before .before .before .before .before in
+    λ r zone. plain-fixed-written (s .args .fixed) r zone (c .before .before .before .fixed-byte .ensures) (s .pre .1) (c .before .before .put-byte .ensures _)
 
 pub plain-fixed-spec : {M : Type 1} → statement M
 plain-fixed-spec = tie.close (tie.spec fixed-byte-requires put-byte-requires same-length returns)

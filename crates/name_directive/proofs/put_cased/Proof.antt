@@ -1,6 +1,5 @@
 -- A text that fits in the slice is laid there byte by byte; one that does not is missed.
 use mathlib.Core.Path.{sym, ap, _∙_}
-use mathlib.Core.List.{map}
 use Prim.Native.Nat.{ℕ, _+_}
 use native.Mathlib.Omega.{arith}
 use lib.ListN.{length-map}
@@ -25,13 +24,20 @@ same-length : tie.Need-same-length
 same-length c = search needs
 
 returns : tie.Need-returns
-returns c = let a = c .before .before .before .before .before .before .before .before .args in let k = fits-yes _ _ (c .before .before .before .before .before .fits2 .ensures) (c .before .before .before .before .if1 .taken) in λ limit. placed (c .before .before .copy-cased .ensures) (ap (λ (n : ℕ). a .at + n) (sym (length-map (a .src .now) (byteIn (a .lowered))))) k (c .before .before .before .before .before .before .before .before .pre)
+returns c =
+    let s = c .before .before .before .before .before .before .before .before in
+    let k = fits-yes _ _ (c .before .before .before .before .before .fits2 .ensures) (c .before .before .before .before .if1 .taken) in
+    let e = length-map (s .args .src .now) (byteIn (s .args .lowered)) in
+    λ limit. placed (c .before .before .copy-cased .ensures) (ap (λ (n : ℕ). s .args .at + n) (sym e)) k (s .pre)
 
 missed-requires : tie.Need-missed-requires
 missed-requires c κs = search needs
 
 returns-2 : tie.Need-returns-2
-returns-2 c = let a = c .before .before .before .before .before .args in let k = fits-no _ _ (c .before .before .fits2 .ensures) (c .before .if1 .left) in λ limit. c .missed .ensures limit (map (byteIn (a .lowered)) (a .src .now)) _ (length-map (a .src .now) (byteIn (a .lowered))) (c .before .before .before .before .before .pre .within) k
+returns-2 c =
+    let s = c .before .before .before .before .before in
+    let k = fits-no _ _ (c .before .before .fits2 .ensures) (c .before .if1 .left) in
+    λ limit. c .missed .ensures limit _ _ (length-map (s .args .src .now) (byteIn (s .args .lowered))) (s .pre .within) k
 
 pub put-cased-spec : {M : Type 1} → statement M
 put-cased-spec =

@@ -1,7 +1,7 @@
 -- A small letter is 32 less; any other byte stays.
 use mathlib.Core.Logic.{⊎-elim}
 use Rattle.rules.specs.Name.{upper}
-use Rattle.name_directive.proofs.LetterLaws.{inside, above, below}
+use Rattle.name_directive.proofs.CaseLaws.{inside, above, below}
 use borrow.Author.Needs.{needs}
 use Rattle.name_directive.proofs.upper.Statement.{statement}
 use Rattle.name_directive.proofs.upper.Tie as tie

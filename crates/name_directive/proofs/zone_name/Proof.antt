@@ -1,5 +1,5 @@
 -- The check; of a name that is not empty the pad and the letters.
-use Rattle.name_directive.proofs.NamedLaws.{zone-empty, zone-named, short}
+use Rattle.name_directive.proofs.RunLaws.{zone-empty, zone-named, short}
 use borrow.Author.Needs.{needs}
 use Rattle.name_directive.proofs.zone_name.Statement.{statement}
 use Rattle.name_directive.proofs.zone_name.Tie as tie
@@ -11,7 +11,9 @@ checked-requires : tie.Need-checked-requires
 checked-requires c κs = search needs
 
 returns : tie.Need-returns
-returns c = λ r. zone-empty _ r (c .before .before .before .before .before .args .zone .now) (c .before .before .time-zone .ensures) (c .if1 .taken) (c .before .checked .ensures _ _ _ (short (c .before .before .before .before .before .pre .0)))
+returns c =
+    let s = c .before .before .before .before .before in
+    λ r. zone-empty _ r (s .args .zone .now) (c .before .before .time-zone .ensures) (c .if1 .taken) (c .before .checked .ensures _ _ _ (short (s .pre .0)))
 
 string-padding-requires : tie.Need-string-padding-requires
 string-padding-requires c κs = search needs
@@ -23,7 +25,9 @@ same-length : tie.Need-same-length
 same-length c = search needs
 
 returns-2 : tie.Need-returns-2
-returns-2 c = λ r. zone-named (c .before .before .before .before .before .before .before .before .before .before .before .before .before .before .args .piece) r (c .before .before .before .before .before .before .before .before .before .before .before .before .before .before .args .zone .now) (c .before .before .before .before .before .before .before .before .before .before .before .time-zone .ensures) (c .before .before .before .before .before .before .before .before .before .if1 .left) (c .before .before .before .before .before .before .before .before .before .before .checked .ensures _ _ _ (short (c .before .before .before .before .before .before .before .before .before .before .before .before .before .before .pre .0))) (c .before .before .before .before .before .before .string-padding .ensures) (c .before .before .put-zone .ensures _)
+returns-2 c =
+    let s = c .before .before .before .before .before .before .before .before .before .before .before .before .before .before in
+    λ r. zone-named (s .args .piece) r (s .args .zone .now) (c .before .before .before .before .before .before .before .before .before .before .before .time-zone .ensures) (c .before .before .before .before .before .before .before .before .before .if1 .left) (c .before .before .before .before .before .before .before .before .before .before .checked .ensures _ _ _ (short (s .pre .0))) (c .before .before .before .before .before .before .string-padding .ensures) (c .before .before .put-zone .ensures _)
 
 pub zone-name-spec : {M : Type 1} → statement M
 zone-name-spec =

@@ -1,5 +1,4 @@
 -- Each answer, by the tests that led there.
-use mathlib.Core.Path.{_≡_}
 use mathlib.Core.Logic.{⊎-elim}
 use Rattle.offset_directive.proofs.is_short.Statement.{statement}
 use Rattle.offset_directive.proofs.is_short.Tie as tie

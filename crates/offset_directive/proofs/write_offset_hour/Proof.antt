@@ -1,5 +1,4 @@
 -- The sign with its pad, then the hours.
-use mathlib.Core.Path.{_≡_}
 use native.Mathlib.Omega.{arith}
 use Rattle.numbers.proofs.CountLaws.{count-64}
 use Rattle.text.proofs.RanLaws.{_then_, said, room-kept}

@@ -1,5 +1,4 @@
 -- A pad of spaces and the sign, or the sign and a pad of zeros.
-use mathlib.Core.Path.{_≡_}
 use Rattle.rules.specs.Offset.{signAndPad}
 use Rattle.text.proofs.RanLaws.{_then_}
 use borrow.Author.Needs.{needs}

@@ -1,8 +1,8 @@
 -- The runs of names, zone names and single bytes, from the runs of their check, their pad and their text.
 use mathlib.Core.Path.{_≡_, refl, sym, ap, _∙_}
 use mathlib.Core.Bool.{Bool, true, false, cond}
-use mathlib.Core.List.{List, [], _∷_, _++_, map, map-append}
-use Prim.Native.Nat.{ℕ, _-_, _≤_, _<_}
+use mathlib.Core.List.{List, [], _∷_, map, map-append}
+use Prim.Native.Nat.{ℕ, _≤_}
 use native.Mathlib.Nat.{zero-sub}
 use native.Mathlib.Omega.{arith}
 use lib.ListN.{length}
@@ -22,11 +22,15 @@ use Rattle.text.specs.Room.{Room}
 use Rattle.text.proofs.RanLaws.{nothing, _then_, same-events, said, told, pad-none, checks-hold, stopped}
 use Rattle.fields.proofs.Laws.{alone}
 use Rattle.printing.specs.Plain.{plainPiece}
-use Rattle.name_directive.specs.Named.{padding, capitals, lettersOf}
-use Rattle.name_directive.proofs.LetterLaws.{letters-cased, length-cased}
+use Rattle.name_directive.specs.Named.{padding, capitals, numberOf, lettersOf}
+use Rattle.name_directive.proofs.CaseLaws.{length-cased}
+use Rattle.name_directive.proofs.LetterLaws.{letters-cased}
 
 pub short : {l : List ℕ} {room : ℕ} → Room l room → length l ≤ 65536
 short r = omega (arith, r .within, r .small)
+
+letters-are : (n : Name) (p : Piece) (r : Record) {capital : Bool} {k : ℕ} → k ≡ numberOf n r → capital ≡ capitals n (p .flags) → lettersOf n capital k ≡ inCase (caseOf n (p .flags)) (nameOf n r)
+letters-are n p r e q = rw (e, q) (letters-cased n (p .flags) r)
 
 module _ {limit room : ℕ} where
   -- ## The pad
@@ -61,18 +65,18 @@ module _ {limit room : ℕ} where
     unfolding specEvents leadOf fieldsOf bodyOf
     name-failed t h w = told (sym t ∙ e) (stopped h w)
 
-  cased : (n : Name) (p : Piece) (r : Record) {capital : Bool} {l l′ : List ℕ} {a b : ℕ} → capital ≡ capitals n (p .flags) → Ran limit room (write (put (lettersOf n capital r)) ∷ []) l a l′ b → Ran limit room (write (put (inCase (caseOf n (p .flags)) (nameOf n r))) ∷ []) l a l′ b
-  cased n p r e w = said (ap (λ (capital : Bool). lettersOf n capital r) e ∙ letters-cased n (p .flags) r) w
+  cased : (n : Name) (p : Piece) (r : Record) {capital : Bool} {k : ℕ} {l l′ : List ℕ} {a b : ℕ} → k ≡ numberOf n r → capital ≡ capitals n (p .flags) → Ran limit room (write (put (lettersOf n capital k)) ∷ []) l a l′ b → Ran limit room (write (put (inCase (caseOf n (p .flags)) (nameOf n r))) ∷ []) l a l′ b
+  cased n p r e q w = said (letters-are n p r e q) w
 
-  pub named : (n : Name) (p : Piece) (r : Record) (zone : List ℕ) {ok capital : Bool} {k : ℕ} {l l′ l″ : List ℕ} {a m b : ℕ} → ok ≡ allOk (nameFields n) r zone → ok ≡ true → k ≡ length (nameOf n r) → capital ≡ capitals n (p .flags) → Ran limit room (map write (padding p k)) l a l′ m → Ran limit room (write (put (lettersOf n capital r)) ∷ []) l′ m l″ b → Ran limit room (specEvents (name n) p r zone) l a l″ b
-  named n p r zone e t k q v w =
+  pub named : (n : Name) (p : Piece) (r : Record) (zone : List ℕ) {ok capital : Bool} {k len : ℕ} {l l′ l″ : List ℕ} {a m b : ℕ} → ok ≡ allOk (nameFields n) r zone → ok ≡ true → k ≡ numberOf n r → capital ≡ capitals n (p .flags) → len ≡ length (lettersOf n capital k) → Ran limit room (map write (padding p len)) l a l′ m → Ran limit room (write (put (lettersOf n capital k)) ∷ []) l′ m l″ b → Ran limit room (specEvents (name n) p r zone) l a l″ b
+  named n p r zone e t k q h v w =
       name-held n p r zone e t
-      (written p (inCase (caseOf n (p .flags)) (nameOf n r)) (k ∙ sym (length-cased (caseOf n (p .flags)) (nameOf n r))) v (cased n p r q w))
+      (written p (inCase (caseOf n (p .flags)) (nameOf n r)) (h ∙ ap length (letters-are n p r k q)) v (cased n p r k q w))
 
-  pub plain-named : (n : Name) (r : Record) (zone : List ℕ) {ok capital : Bool} {l l′ : List ℕ} {a b : ℕ} → ok ≡ allOk (nameFields n) r zone → ok ≡ true → capital ≡ capitals n noFlags → 65536 ≤ limit → Ran limit room (write (put (lettersOf n capital r)) ∷ []) l a l′ b → Ran limit room (specEvents (name n) (plainPiece (name n)) r zone) l a l′ b
-  plain-named n r zone e t q h w =
+  pub plain-named : (n : Name) (r : Record) (zone : List ℕ) {ok capital : Bool} {k : ℕ} {l l′ : List ℕ} {a b : ℕ} → ok ≡ allOk (nameFields n) r zone → ok ≡ true → k ≡ numberOf n r → capital ≡ capitals n noFlags → 65536 ≤ limit → Ran limit room (write (put (lettersOf n capital k)) ∷ []) l a l′ b → Ran limit room (specEvents (name n) (plainPiece (name n)) r zone) l a l′ b
+  plain-named n r zone e t k q h w =
       name-held n (plainPiece (name n)) r zone e t
-      (plain-written (name n) (inCase (caseOf n noFlags) (nameOf n r)) h (cased n (plainPiece (name n)) r q w))
+      (plain-written (name n) (inCase (caseOf n noFlags) (nameOf n r)) h (cased n (plainPiece (name n)) r k q w))
 
   -- ## Zone names
 
