@@ -1,0 +1,88 @@
+// Ports lib.rs: the entries over the C ABI. `include/groatsaddle.h` declares them.
+ghost use mathlib.Core.Path.{_≡_};
+ghost use lib.ListN.{length};
+ghost use Rattle.rules.specs.Event.{reported, bufferAfter};
+ghost use Rattle.rules.specs.Format.{formatted};
+ghost use Rattle.rules.specs.Refusal.{numberOf};
+ghost use Rattle.abi.specs.Entries.{recordFrom, reportFrom};
+use rules::Answer;
+use rules::Record;
+use rules::Refusal;
+
+// `is_utc` is a byte, since a C caller can put anything there: 0 is no, all else is yes.
+#[repr(C)]
+pub struct GsRecord {
+    pub year: i32,
+    pub month: u8,
+    pub day: u8,
+    pub hour: u8,
+    pub minute: u8,
+    pub second: u8,
+    pub nanoseconds: u32,
+    pub day_of_week: u8,
+    pub day_of_year: u16,
+    pub to_int: i64,
+    pub is_utc: u8,
+    pub utc_offset: i32,
+}
+
+#[repr(C)]
+pub struct GsAnswer {
+    pub refusal: u32,
+    pub length: u32,
+}
+
+fn record_from(r: GsRecord) -> Record
+    ensures { λ t. ⌜ t ≡ recordFrom r ⌝ }
+{
+    Record {
+        year: r.year,
+        month: r.month,
+        day: r.day,
+        hour: r.hour,
+        minute: r.minute,
+        second: r.second,
+        nanoseconds: r.nanoseconds,
+        day_of_week: r.day_of_week,
+        day_of_year: r.day_of_year,
+        to_int: r.to_int,
+        is_utc: r.is_utc != 0,
+        utc_offset: r.utc_offset,
+    }
+}
+
+fn number_of(refusal: Refusal) -> u32
+    ensures { λ r. ⌜ r ≡ numberOf refusal ⌝ }
+{
+    match refusal {
+        Refusal::InvalidTime => 1,
+        Refusal::InvalidFormatString => 2,
+        Refusal::FormattedStringTooLarge => 3,
+        Refusal::WriteZero => 4,
+        Refusal::InputTooLong => 5,
+        Refusal::NoBuffer => 6,
+    }
+}
+
+#[no_mangle]
+pub extern "C" fn gs_format(
+    format: &[u8],
+    zone: &[u8],
+    record: GsRecord,
+    buffer: &mut [u8],
+) -> GsAnswer
+    ensures answer { λ r. ⌜ reportFrom r ≡ reported (formatted (now (format .entry)) (now (zone .entry)) (recordFrom «record») (length (now (buffer .entry)))) ⌝ }
+    ensures buffer { λ r. ⌜ now (buffer .exit) ≡ bufferAfter (formatted (now (format .entry)) (now (zone .entry)) (recordFrom «record») (length (now (buffer .entry)))) (now (buffer .entry)) ⌝ }
+{
+    let answer = strftime::format(format, zone, record_from(record), buffer);
+    match answer {
+        Answer::Done(length) => GsAnswer {
+            refusal: 0,
+            length: length as u32,
+        },
+        Answer::Refused(refusal) => GsAnswer {
+            refusal: number_of(refusal),
+            length: 0,
+        },
+    }
+}
