@@ -2,9 +2,11 @@
 //! The texts wanted here are written from the paper's words alone.
 
 mod record;
+mod sweeps;
 
 use record::{strftime, Record};
 use std::process::ExitCode;
+use sweeps::{every_offset, every_year};
 
 const RECORD: Record<'static> = Record {
     year: 2024,
@@ -296,19 +298,6 @@ fn offset_text(form: &str, flags: Flags, width: Option<usize>, record: &Record) 
     }
 }
 
-/// Every half hour of a day either way, every second around zero, and the neighbours of
-/// the tenth hour, of the hundredth and of the ends of the type.
-fn every_offset() -> impl Iterator<Item = i32> {
-    let around = |n: i32| (n - 70..=n + 70).chain(-n - 70..=-n + 70);
-    (-48..=48)
-        .map(|n| n * 1800)
-        .chain(-3700..=3700)
-        .chain(around(36_000))
-        .chain(around(360_000))
-        .chain(i32::MIN..=i32::MIN + 70)
-        .chain(i32::MAX - 70..=i32::MAX)
-}
-
 fn try_offsets(trial: &mut Trial, forms: &[&str]) {
     for utc_offset in every_offset() {
         for is_utc in [false, true] {
@@ -393,14 +382,6 @@ fn thursday_rule(year: i64, weekday: i64, day: i64) -> (i64, i64) {
     } else {
         (year, thursday / 7 + 1)
     }
-}
-
-/// Two spans of 400 years, and twenty years at each end of the type.
-fn every_year() -> impl Iterator<Item = i32> {
-    (-400..0)
-        .chain(1800..2200)
-        .chain(i32::MIN..i32::MIN + 20)
-        .chain(i32::MAX - 19..=i32::MAX)
 }
 
 fn try_week(trial: &mut Trial, year: i32, weekday: u8, day: u16, want: (i64, i64)) {

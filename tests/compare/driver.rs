@@ -1,8 +1,10 @@
 //! Reads cases from standard input and writes each with the original's answer appended.
 //! README.md has the form of a line.
 
+mod line;
 mod record;
 
+use line::encoded;
 use record::{strftime, Record};
 use std::io::{self, BufRead, BufWriter, Write};
 use std::process::ExitCode;
@@ -11,9 +13,6 @@ use std::str::{self, FromStr};
 const LONGEST_FORMAT: usize = 4096;
 const LONGEST_ZONE: usize = 64;
 const LONGEST_BUFFER: usize = 65536;
-
-/// Runs of at least this many equal bytes are written with their count.
-const SHORTEST_RUN: usize = 8;
 
 fn main() -> ExitCode {
     let mut out = BufWriter::new(io::stdout().lock());
@@ -99,24 +98,4 @@ fn decoded(field: &str) -> Option<Vec<u8>> {
         }
     }
     (!bytes.is_empty()).then_some(bytes)
-}
-
-fn encoded(bytes: &[u8]) -> String {
-    if bytes.is_empty() {
-        return String::from("\\-");
-    }
-    let mut field = String::new();
-    for run in bytes.chunk_by(|a, b| a == b) {
-        let byte = match run[0] {
-            b'\\' => String::from("\\5c"),
-            graphic @ 33..=126 => char::from(graphic).to_string(),
-            other => format!("\\{other:02x}"),
-        };
-        if run.len() >= SHORTEST_RUN {
-            field.push_str(&format!("{byte}\\*{};", run.len()));
-        } else {
-            field.push_str(&byte.repeat(run.len()));
-        }
-    }
-    field
 }

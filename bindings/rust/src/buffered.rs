@@ -1,0 +1,54 @@
+//! `strftime` with a format of any bytes, into a byte slice.
+
+use crate::abi::{gs_format, Record};
+use crate::{Error, Time};
+
+/// Formats `time` as `format` says, at the front of `buf`, and returns the part that is written.
+///
+/// An error changes no byte of `buf`.
+///
+/// # Errors
+///
+/// The first thing that fails, from left to right, names the [`Error`]; [`Error::InputTooLong`]
+/// comes before all others.
+pub fn strftime<'a>(
+    time: &impl Time,
+    format: &[u8],
+    buf: &'a mut [u8],
+) -> Result<&'a mut [u8], Error> {
+    let zone = time.time_zone().as_bytes();
+    let record = record(time);
+    // SAFETY: each pointer has the length of its slice beside it, and `buf` is borrowed alone.
+    let answer = unsafe {
+        gs_format(
+            format.as_ptr(),
+            format.len(),
+            zone.as_ptr(),
+            zone.len(),
+            record,
+            buf.as_mut_ptr(),
+            buf.len(),
+        )
+    };
+    match answer.refusal {
+        0 => Ok(&mut buf[..answer.length as usize]),
+        refusal => Err(Error::numbered(refusal)),
+    }
+}
+
+fn record(time: &impl Time) -> Record {
+    Record {
+        year: time.year(),
+        month: time.month(),
+        day: time.day(),
+        hour: time.hour(),
+        minute: time.minute(),
+        second: time.second(),
+        nanoseconds: time.nanoseconds(),
+        day_of_week: time.day_of_week(),
+        day_of_year: time.day_of_year(),
+        to_int: time.to_int(),
+        is_utc: u8::from(time.is_utc()),
+        utc_offset: time.utc_offset(),
+    }
+}

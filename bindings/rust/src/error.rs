@@ -1,0 +1,49 @@
+use core::fmt;
+
+/// Why there is no text. The original's names, and two that are added.
+#[derive(Debug, Clone, Copy, PartialEq, Eq)]
+#[non_exhaustive]
+pub enum Error {
+    /// A directive reads a field that is out of its range, or a zone name that is not ASCII.
+    InvalidTime,
+    /// The format ends inside a directive.
+    InvalidFormatString,
+    /// Padding would take the text past 524,288 bytes for each byte of the format.
+    FormattedStringTooLarge,
+    /// The buffer is too short for the text.
+    WriteZero,
+    /// The format, the zone name or the buffer is longer than the library takes. Not the original's.
+    InputTooLong,
+    /// No buffer that the library takes is long enough for every record. Not the original's; only
+    /// sizing gives it.
+    NoBuffer,
+}
+
+impl Error {
+    pub(crate) fn numbered(refusal: u32) -> Self {
+        match refusal {
+            1 => Error::InvalidTime,
+            2 => Error::InvalidFormatString,
+            3 => Error::FormattedStringTooLarge,
+            4 => Error::WriteZero,
+            5 => Error::InputTooLong,
+            6 => Error::NoBuffer,
+            other => unreachable!("the library has no refusal {other}"),
+        }
+    }
+}
+
+impl fmt::Display for Error {
+    fn fmt(&self, f: &mut fmt::Formatter<'_>) -> fmt::Result {
+        f.write_str(match self {
+            Error::InvalidTime => "invalid time",
+            Error::InvalidFormatString => "invalid format string",
+            Error::FormattedStringTooLarge => "formatted string too large",
+            Error::WriteZero => "failed to write the whole buffer",
+            Error::InputTooLong => "input too long",
+            Error::NoBuffer => "no buffer is long enough",
+        })
+    }
+}
+
+impl core::error::Error for Error {}

@@ -1,0 +1,90 @@
+/* Groatsaddle: format bytes and a flat time record go in, text comes out in a buffer that the caller lends.
+
+   Link libabi.a, which `rt staticlib abi` writes to target/staticlib. For x86-64.
+
+   A first use:
+
+       gs_record record = {0};
+       uint8_t line[32];
+       record.year = 2024;
+       record.month = 12;
+       record.day = 30;
+       gs_answer answer = gs_format((const uint8_t *)"%F", 2, NULL, 0, record, line, sizeof line);
+       if (answer.refusal == gs_DONE)
+           printf("%.*s\n", (int)answer.length, (const char *)line);
+
+   Nothing is allocated and no state is kept: any number of threads may call at once, and an interrupt too, as long as
+   nobody changes what is lent while the call runs. */
+
+#ifndef GROATSADDLE_H
+#define GROATSADDLE_H
+
+#include <stddef.h>
+#include <stdint.h>
+
+#ifdef __cplusplus
+extern "C" {
+#endif
+
+/* The longest inputs, in bytes. */
+#define gs_LONGEST_FORMAT 4096
+#define gs_LONGEST_ZONE 64
+#define gs_LONGEST_BUFFER 65536
+
+/* What `refusal` of an answer can be. */
+enum {
+    /* The text stands in the buffer. */
+    gs_DONE = 0,
+    /* InvalidTime: a directive reads a field that is out of its range, or `%Z` a zone name with a byte above 127. */
+    gs_INVALID_TIME = 1,
+    /* InvalidFormatString: the format ends inside a directive, as "%" and "%5" do. */
+    gs_INVALID_FORMAT_STRING = 2,
+    /* FormattedStringTooLarge: padding would take the text past 524,288 bytes for each byte of the format. */
+    gs_FORMATTED_STRING_TOO_LARGE = 3,
+    /* WriteZero: the buffer is too short for the text. */
+    gs_WRITE_ZERO = 4,
+    /* InputTooLong: an input is longer than the lengths above. It comes before every other refusal. */
+    gs_INPUT_TOO_LONG = 5
+};
+
+/* The fields are independent: nothing asks that the weekday and the date agree. A field is checked where a directive
+   reads it, and only there. year, to_int and utc_offset may have any value. */
+typedef struct {
+    int32_t year;
+    uint8_t month;        /* 1 to 12 */
+    uint8_t day;          /* of the month, 1 to 31 */
+    uint8_t hour;         /* 0 to 23 */
+    uint8_t minute;       /* 0 to 59 */
+    uint8_t second;       /* 0 to 60 */
+    uint32_t nanoseconds; /* 0 to 999,999,999 */
+    uint8_t day_of_week;  /* Sunday 0, to 6 */
+    uint16_t day_of_year; /* 1 to 366 */
+    int64_t to_int;       /* seconds since 1970-01-01 00:00:00 UTC, printed by %s */
+    uint8_t is_utc;       /* 0: no; any other value: yes. A byte, so that no value of it is wrong. */
+    int32_t utc_offset;   /* seconds east of UTC */
+} gs_record;
+
+typedef struct {
+    uint32_t refusal; /* gs_DONE, or why there is no text */
+    uint32_t length;  /* bytes of text; 0 where refused */
+} gs_answer;
+
+/* Writes the text of the record, as the format says, to the front of the buffer.
+
+   Read: format_len bytes from format, zone_len bytes from zone (the zone name, which `%Z` prints), and the record. A 0
+   byte ends neither. A pointer whose length is 0 is never followed, and may be NULL.
+
+   Written: where done, the first `length` bytes of the buffer and no other; no 0 byte is put behind the text. Where
+   refused, no byte of the buffer is changed. The buffer must overlap neither the format nor the zone name.
+
+   The format runs from left to right, and the first thing that fails names the refusal. */
+gs_answer gs_format(const uint8_t *format, size_t format_len,
+                    const uint8_t *zone, size_t zone_len,
+                    gs_record record,
+                    uint8_t *buffer, size_t buffer_len);
+
+#ifdef __cplusplus
+}
+#endif
+
+#endif

@@ -1,0 +1,242 @@
+//! Times the library beside a plain formatter and the original, and measures how deep their stacks go.
+//! Exit status 1: a text differs.
+
+#[path = "../compare/library.rs"]
+#[allow(dead_code)]
+mod library;
+#[path = "../compare/lot.rs"]
+#[allow(dead_code)]
+mod lot;
+mod plain;
+#[path = "../compare/record.rs"]
+mod record;
+mod stack;
+
+use library::FlatRecord;
+use lot::Lot;
+use record::Record;
+use stack::Stack;
+use std::hint::black_box;
+use std::process::ExitCode;
+use std::time::Instant;
+
+/// A million stamps of each format: so many windows of so many stamps.
+const WINDOWS: usize = 1000;
+const STAMPS: usize = 1000;
+
+const ZONE: &[u8] = b"CEST";
+
+/// 64 bytes, ten directives.
+const A: &str = "sale %Y-%m-%dT%H:%M:%S.%L%z day %j (%a), module 07, coin or card";
+/// Sixteen directives.
+const B: &str = "%c %D %r %A %-d %B %Y %j %U %W %s %:z %G %V %u %Z";
+const C: &str = "%F %T";
+
+fn main() -> ExitCode {
+    assert_eq!((A.len(), A.matches('%').count()), (64, 10));
+    let long = A.repeat(3);
+    let formats = [
+        ("A: 64 bytes, ten directives", A),
+        ("B: sixteen directives", B),
+        ("C: %F %T", C),
+        ("no format", ""),
+        ("one literal byte", "x"),
+        ("A three times, a text above 192 bytes", &long),
+    ];
+    let records = sales();
+    for (name, format) in formats {
+        if let Err(record) = same_texts(format.as_bytes(), &records) {
+            println!("{name}: the three texts are not the same for record {record}");
+            return ExitCode::FAILURE;
+        }
+    }
+    println!("best of {WINDOWS} windows of {STAMPS} stamps, in ns a stamp; the mean in brackets");
+    for (name, format) in formats {
+        print_times(name, &race(format.as_bytes(), &records));
+    }
+    print_stacks(&formats.map(|(_, format)| format), &records);
+    ExitCode::SUCCESS
+}
+
+/// One window's records, as a module's sales bring them.
+fn sales() -> Vec<FlatRecord> {
+    let mut lot = Lot::new(1);
+    let mut sale = |_| FlatRecord {
+        year: lot.within(2020, 2035) as i32,
+        month: lot.within(1, 12) as u8,
+        day: lot.within(1, 31) as u8,
+        hour: lot.within(0, 23) as u8,
+        minute: lot.within(0, 59) as u8,
+        second: lot.within(0, 59) as u8,
+        nanoseconds: lot.within(0, 999_999_999) as u32,
+        day_of_week: lot.within(0, 6) as u8,
+        day_of_year: lot.within(1, 365) as u16,
+        to_int: lot.within(1_577_836_800, 2_082_758_399),
+        is_utc: 0,
+        utc_offset: lot.within(-11, 14) as i32 * 3600,
+    };
+    (0..STAMPS).map(&mut sale).collect()
+}
+
+#[inline(never)]
+fn original(record: &Record, format: &[u8], buffer: &mut [u8]) -> Result<usize, u8> {
+    record::strftime(record, format, buffer)
+}
+
+/// The number of the first record whose texts differ.
+fn same_texts(format: &[u8], records: &[FlatRecord]) -> Result<(), usize> {
+    let mut lines = [[0; 1024]; 3];
+    for (at, record) in records.iter().enumerate() {
+        let [ours, plain, theirs] = &mut lines;
+        let answer = library::format(format, ZONE, *record, ours);
+        let lengths = [
+            (answer.refusal == 0).then_some(answer.length as usize),
+            plain::format(format, ZONE, *record, plain).ok(),
+            original(&record.with_zone(ZONE), format, theirs).ok(),
+        ];
+        let [Some(a), Some(b), Some(c)] = lengths else {
+            return Err(at);
+        };
+        if ours[..a] != plain[..b] || ours[..a] != theirs[..c] {
+            return Err(at);
+        }
+    }
+    Ok(())
+}
+
+/// Nanoseconds a stamp.
+struct Times {
+    best: f64,
+    mean: f64,
+}
+
+impl Times {
+    fn window(&mut self, stamps: impl FnOnce()) {
+        let start = Instant::now();
+        stamps();
+        let time = start.elapsed().as_nanos() as f64 / STAMPS as f64;
+        self.best = self.best.min(time);
+        self.mean += time / WINDOWS as f64;
+    }
+}
+
+/// Library, plain formatter and original in turn, window by window.
+fn race(format: &[u8], records: &[FlatRecord]) -> [Times; 3] {
+    let times: Vec<Record> = records
+        .iter()
+        .map(|record| record.with_zone(ZONE))
+        .collect();
+    let mut line = [0; 1024];
+    let mut all = [0; 3].map(|_| Times {
+        best: f64::INFINITY,
+        mean: 0.0,
+    });
+    let [ours, plain, theirs] = &mut all;
+    for _ in 0..WINDOWS {
+        ours.window(|| {
+            for record in records {
+                black_box(library::format(black_box(format), ZONE, *record, &mut line));
+            }
+        });
+        plain.window(|| {
+            for record in records {
+                let _ = black_box(plain::format(black_box(format), ZONE, *record, &mut line));
+            }
+        });
+        theirs.window(|| {
+            for time in &times {
+                let _ = black_box(original(time, black_box(format), &mut line));
+            }
+        });
+    }
+    all
+}
+
+fn print_times(name: &str, [ours, plain, theirs]: &[Times; 3]) {
+    println!("{name}");
+    for (who, times) in [("library", ours), ("plain", plain), ("original", theirs)] {
+        println!("    {who:<16} {:8.1} ({:.1})", times.best, times.mean);
+    }
+    println!("    library/plain    {:8.2}", ours.best / plain.best);
+    println!("    library/original {:8.2}", ours.best / theirs.best);
+}
+
+/// Every directive under flags and widths, and the formats that are timed.
+fn deep_formats(timed: &[&str]) -> Vec<String> {
+    let letters = "%ABCDFGHILMNPRSTUVWXYZabcdeghjklmnprstuvwxyz"
+        .chars()
+        .map(String::from);
+    let directives = letters.chain([":z", "::z", ":::z"].map(String::from));
+    let fronts = [
+        "", "-", "_", "0", "^", "#", "12", "_12", "-12", "012", "65536", "9999999",
+    ];
+    directives
+        .flat_map(|directive| fronts.map(|front| format!("%{front}{directive}")))
+        .chain(["%", "%E", "%5Q", "%99999999999Y"].map(String::from))
+        .chain(timed.iter().map(|format| format.to_string()))
+        .collect()
+}
+
+/// A formatter as the stack sees it: the answer is thrown away.
+type Formatter = fn(&[u8], FlatRecord, &mut [u8]);
+
+#[inline(never)]
+fn nothing(format: &[u8], record: FlatRecord, buffer: &mut [u8]) {
+    black_box((format, record, buffer));
+}
+
+#[inline(never)]
+fn with_library(format: &[u8], record: FlatRecord, buffer: &mut [u8]) {
+    black_box(library::format(format, ZONE, record, buffer));
+}
+
+#[inline(never)]
+fn with_plain(format: &[u8], record: FlatRecord, buffer: &mut [u8]) {
+    let _ = black_box(plain::format(format, ZONE, record, buffer));
+}
+
+#[inline(never)]
+fn with_original(format: &[u8], record: FlatRecord, buffer: &mut [u8]) {
+    let _ = black_box(original(&record.with_zone(ZONE), format, buffer));
+}
+
+/// The deepest call and its format.
+fn deepest(formatter: Formatter, formats: &[String], records: &[FlatRecord]) -> (usize, String) {
+    let mut buffer = vec![0; library::LONGEST_BUFFER];
+    let mut stack = Stack::new();
+    let base = stack.depth(|| nothing(b"", records[0], &mut buffer));
+    let mut deepest = (base, String::new());
+    for format in formats {
+        for record in records {
+            let depth = stack.depth(|| formatter(format.as_bytes(), *record, &mut buffer));
+            if depth > deepest.0 {
+                deepest = (depth, format.clone());
+            }
+        }
+    }
+    (deepest.0 - base, deepest.1)
+}
+
+fn print_stacks(timed: &[&str], sales: &[FlatRecord]) {
+    let least = FlatRecord {
+        year: i32::MIN,
+        to_int: i64::MIN,
+        utc_offset: i32::MIN,
+        ..sales[0]
+    };
+    let records = [sales[0], sales[1], least];
+    let formats = deep_formats(timed);
+    println!(
+        "deepest stack over {} formats, in bytes, and its format",
+        formats.len()
+    );
+    let formatters: [(&str, Formatter); 3] = [
+        ("library", with_library),
+        ("plain", with_plain),
+        ("original", with_original),
+    ];
+    for (who, formatter) in formatters {
+        let (depth, format) = deepest(formatter, &formats, &records);
+        println!("    {who:<16} {depth:8}   {format:.40}");
+    }
+}

@@ -1,0 +1,91 @@
+/* gs_format for a program of this machine, over the server, which runs under an emulator. */
+
+#include "call.h"
+
+#include <pthread.h>
+#include <stdio.h>
+#include <stdlib.h>
+#include <string.h>
+#include <sys/socket.h>
+#include <unistd.h>
+
+static pthread_mutex_t one_at_a_time = PTHREAD_MUTEX_INITIALIZER;
+static int server = -1;
+static uint8_t message[sizeof(call) + 3 * MOST];
+
+static void stop(const char *why) {
+    fprintf(stderr, "bridge: %s\n", why);
+    abort();
+}
+
+/* EMULATOR, LOADER, LIBRARIES and SERVER are paths, given by the script that builds this. */
+static void start(void) {
+    int ends[2];
+    if (socketpair(AF_UNIX, SOCK_STREAM | SOCK_CLOEXEC, 0, ends) != 0)
+        stop("there is no socket");
+    pid_t child = fork();
+    if (child < 0)
+        stop("the server did not start");
+    if (child == 0) {
+        dup2(ends[1], 0);
+        dup2(ends[1], 1);
+        execl(EMULATOR, EMULATOR, LOADER, "--library-path", LIBRARIES, SERVER, (char *)NULL);
+        _exit(127);
+    }
+    close(ends[1]);
+    server = ends[0];
+}
+
+static size_t append(size_t at, const void *from, size_t length) {
+    if (length > MOST)
+        stop("an input is too long for it");
+    if (length != 0)
+        memcpy(message + at, from, length);
+    return at + length;
+}
+
+static void send_all(size_t length) {
+    for (size_t at = 0; at < length;) {
+        ssize_t count = send(server, message + at, length - at, MSG_NOSIGNAL);
+        if (count <= 0)
+            stop("the server is gone");
+        at += (size_t)count;
+    }
+}
+
+static void receive_all(size_t length) {
+    for (size_t at = 0; at < length;) {
+        ssize_t count = recv(server, message + at, length - at, 0);
+        if (count <= 0)
+            stop("the server ended within a call");
+        at += (size_t)count;
+    }
+}
+
+gs_answer gs_format(const uint8_t *format, size_t format_len, const uint8_t *zone, size_t zone_len, gs_record record,
+                    uint8_t *buffer, size_t buffer_len) {
+    call it;
+    memset(&it, 0, sizeof it);
+    it.format_len = format_len;
+    it.zone_len = zone_len;
+    it.buffer_len = buffer_len;
+    it.format_is_null = format == NULL;
+    it.zone_is_null = zone == NULL;
+    it.buffer_is_null = buffer == NULL;
+    it.record = record;
+    pthread_mutex_lock(&one_at_a_time);
+    if (server < 0)
+        start();
+    size_t end = append(0, &it, sizeof it);
+    end = append(end, format, format_len);
+    end = append(end, zone, zone_len);
+    end = append(end, buffer, buffer_len);
+    send_all(end);
+    gs_answer answer;
+    receive_all(sizeof answer + buffer_len);
+    memcpy(&answer, message, sizeof answer);
+    if (buffer_len != 0)
+        memcpy(buffer, message + sizeof answer, buffer_len);
+    pthread_mutex_unlock(&one_at_a_time);
+    return answer;
+}

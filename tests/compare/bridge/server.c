@@ -1,0 +1,91 @@
+/* Holds the library, in a program for x86-64, and answers calls from standard input on standard output.
+   What is lent ends at a page that can't be touched. The bytes before the buffer are looked at after each call. */
+
+#include "call.h"
+
+/* Of the C library. Its headers for x86-64 need not be there. */
+long read(int, void *, size_t);
+long write(int, const void *, size_t);
+void *mmap(void *, size_t, int, int, int, long);
+int mprotect(void *, size_t, int);
+void _exit(int);
+void *memcpy(void *, const void *, size_t);
+
+enum { GUARD = 64, PAGE = 4096, REGION = 2 * MOST, NO_ACCESS = 0, READ_WRITE = 3, PRIVATE_ANONYMOUS = 0x22 };
+
+static uint8_t request[3 * MOST];
+static uint8_t reply[sizeof(gs_answer) + MOST];
+
+static void stop(const char *why, size_t length) {
+    write(2, why, length);
+    _exit(3);
+}
+#define STOP(why) stop(why "\n", sizeof why)
+
+/* The end of a region; the page behind it can't be touched. */
+static uint8_t *end_of_region(void) {
+    uint8_t *from = (uint8_t *)mmap(NULL, REGION + PAGE, READ_WRITE, PRIVATE_ANONYMOUS, -1, 0);
+    uint8_t *end = from + REGION;
+    if (mprotect(end, PAGE, NO_ACCESS) != 0)
+        STOP("bridge: there is no memory");
+    return end;
+}
+
+static int received(uint8_t *to, size_t length) {
+    while (length != 0) {
+        long count = read(0, to, length);
+        if (count <= 0)
+            return 0;
+        to += count;
+        length -= (size_t)count;
+    }
+    return 1;
+}
+
+static void sent(const uint8_t *from, size_t length) {
+    while (length != 0) {
+        long count = write(1, from, length);
+        if (count <= 0)
+            _exit(3);
+        from += count;
+        length -= (size_t)count;
+    }
+}
+
+static uint8_t *lent(uint8_t *end, const uint8_t *from, uint64_t length) {
+    uint8_t *place = end - length;
+    if (length != 0)
+        memcpy(place, from, length);
+    return place;
+}
+
+static uint8_t mark(int at) {
+    return (uint8_t)(at * 7 + 129);
+}
+
+static void answer_call(const call *it, uint8_t *format, uint8_t *zone, uint8_t *buffer) {
+    for (int at = 1; at <= GUARD; at++)
+        buffer[-at] = mark(at);
+    gs_answer answer = gs_format(it->format_is_null ? NULL : format, it->format_len, it->zone_is_null ? NULL : zone,
+                                 it->zone_len, it->record, it->buffer_is_null ? NULL : buffer, it->buffer_len);
+    for (int at = 1; at <= GUARD; at++)
+        if (buffer[-at] != mark(at))
+            STOP("bridge: the library changed a byte before the buffer");
+    memcpy(reply, &answer, sizeof answer);
+    memcpy(reply + sizeof answer, buffer, it->buffer_len);
+    sent(reply, sizeof answer + it->buffer_len);
+}
+
+int main(void) {
+    uint8_t *format_end = end_of_region(), *zone_end = end_of_region(), *buffer_end = end_of_region();
+    call it;
+    while (received((uint8_t *)&it, sizeof it)) {
+        if (it.format_len > MOST || it.zone_len > MOST || it.buffer_len > MOST
+            || !received(request, it.format_len + it.zone_len + it.buffer_len))
+            STOP("bridge: a call can't be read");
+        const uint8_t *zone = request + it.format_len, *buffer = zone + it.zone_len;
+        answer_call(&it, lent(format_end, request, it.format_len), lent(zone_end, zone, it.zone_len),
+                    lent(buffer_end, buffer, it.buffer_len));
+    }
+    return 0;
+}

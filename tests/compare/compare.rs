@@ -1,0 +1,38 @@
+//! Compares the library with the original over systematic cases, and over cases drawn by lot.
+//! The same seed gives the same cases. Exit status 1: some differ.
+
+mod formats;
+mod judge;
+mod library;
+mod line;
+mod lot;
+mod random;
+mod record;
+mod records;
+mod sweeps;
+mod systematic;
+
+use judge::Judge;
+use lot::seed_and_count;
+use std::process::ExitCode;
+
+fn main() -> ExitCode {
+    let mut words: Vec<String> = std::env::args().skip(1).collect();
+    let exact = words.first().is_some_and(|word| word == "--exact");
+    if exact {
+        words.remove(0);
+    }
+    let Some((seed, count)) = seed_and_count(&words) else {
+        eprintln!("usage: compare [--exact] SEED COUNT");
+        eprintln!("--exact: only the drawn cases, each in blocks of just its lengths");
+        return ExitCode::from(2);
+    };
+    let mut judge = Judge::new(exact);
+    if !exact {
+        systematic::try_systematic(&mut judge);
+        println!("systematic: {} cases", judge.tried());
+    }
+    random::try_random(&mut judge, seed, count);
+    println!("by lot: {count} cases, seed {seed}");
+    ExitCode::from(u8::from(!judge.report()))
+}
