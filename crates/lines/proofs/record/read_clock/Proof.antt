@@ -1,0 +1,95 @@
+-- `read_clock`: each number was read in the range of its field.
+use native.Mathlib.Omega.{arith}
+use borrow.Author.Needs.{needs}
+use Rattle.lines.proofs.Laws.{told}
+use Rattle.lines.proofs.record.read_clock.Statement.{statement}
+use Rattle.lines.proofs.record.read_clock.Tie as tie
+
+read-number-requires : tie.Need-read-number-requires
+read-number-requires c κs = tt
+
+enum-known-hour : tie.Need-enum-known-hour
+enum-known-hour c = search needs
+
+enum-told : tie.Need-enum-told
+enum-told c = search needs
+
+returns : tie.Need-returns
+returns c = record { holds = tt }
+
+read-number-requires-2 : tie.Need-read-number-requires-2
+read-number-requires-2 c κs = tt
+
+enum-known-minute : tie.Need-enum-known-minute
+enum-known-minute c = search needs
+
+enum-told-2 : tie.Need-enum-told-2
+enum-told-2 c = search needs
+
+returns-2 : tie.Need-returns-2
+returns-2 c = record { holds = tt }
+
+read-number-requires-3 : tie.Need-read-number-requires-3
+read-number-requires-3 c κs = tt
+
+enum-known-second : tie.Need-enum-known-second
+enum-known-second c = search needs
+
+enum-told-3 : tie.Need-enum-told-3
+enum-told-3 c = search needs
+
+returns-3 : tie.Need-returns-3
+returns-3 c = record { holds = tt }
+
+read-number-requires-4 : tie.Need-read-number-requires-4
+read-number-requires-4 c κs = tt
+
+enum-known-nanoseconds : tie.Need-enum-known-nanoseconds
+enum-known-nanoseconds c = search needs
+
+enum-told-4 : tie.Need-enum-told-4
+enum-told-4 c = search needs
+
+returns-4 : tie.Need-returns-4
+returns-4 c = record { holds = tt }
+
+cast-record : tie.Need-cast-record
+cast-record c = omega (arith, told (c .before .before .before .before .before .before .before .before .before .before .before .before .before .before .before .read-number .ensures) (c .before .before .before .before .before .before .before .before .before .before .before .before .before .hour .given .1))
+
+cast-record-2 : tie.Need-cast-record-2
+cast-record-2 c = omega (arith, told (c .before .before .before .before .before .before .before .before .before .before .before .read-number2 .ensures) (c .before .before .before .before .before .before .before .before .before .minute .given .1))
+
+cast-record-3 : tie.Need-cast-record-3
+cast-record-3 c = omega (arith, told (c .before .before .before .before .before .before .before .read-number3 .ensures) (c .before .before .before .before .before .second .given .1))
+
+cast-record-4 : tie.Need-cast-record-4
+cast-record-4 c = omega (arith, told (c .before .before .before .read-number4 .ensures) (c .before .nanoseconds .given .1))
+
+returns-5 : tie.Need-returns-5
+returns-5 c = record { holds = told (c .before .before .before .read-number4 .ensures) (c .before .nanoseconds .given .1) .2 }
+
+pub read-clock-spec : {M : Type 1} → statement M
+read-clock-spec =
+    tie.close
+    (tie.spec
+    read-number-requires
+    enum-known-hour
+    enum-told
+    returns
+    read-number-requires-2
+    enum-known-minute
+    enum-told-2
+    returns-2
+    read-number-requires-3
+    enum-known-second
+    enum-told-3
+    returns-3
+    read-number-requires-4
+    enum-known-nanoseconds
+    enum-told-4
+    returns-4
+    cast-record
+    cast-record-2
+    cast-record-3
+    cast-record-4
+    returns-5)

@@ -1,0 +1,33 @@
+// Prints the stamp that a format gives of one fixed time, or where the format is refused and why.
+mod refused;
+mod sample;
+mod usage;
+
+use refused::explain;
+use rules::Answer;
+use sample::stamp;
+
+fn show(format: &[u8]) {
+    let mut buffer = io::large_buffer();
+    match stamp(format, &mut buffer) {
+        Answer::Done(bytes) => {
+            say::text(say::front(&buffer, bytes));
+            say::text(b"\n");
+        }
+        Answer::Refused(refusal) => explain(refusal, format, &mut buffer),
+    }
+}
+
+fn main() {
+    if os::arg_count() != 2 {
+        usage::say_usage();
+        return;
+    }
+    let mut format = io::large_buffer();
+    let count = os::arg(1, &mut format);
+    if os::errno() != 0 {
+        say::text(b"the format has more than 65536 bytes\n");
+        return;
+    }
+    show(&format[..count]);
+}

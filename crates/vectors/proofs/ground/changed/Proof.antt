@@ -1,0 +1,50 @@
+-- `changed` looks at the places from `from` to `end`.
+use Prim.Native.Nat.{_≤_, _-_}
+use native.Mathlib.Omega.{arith}
+use Rattle.vectors.proofs.ground.changed.Statement.{statement}
+use Rattle.vectors.proofs.ground.changed.Tie as tie
+
+abbrev Inv-loop : tie.InvT-loop
+Inv-loop ground from end i₀ i = from ≤ i
+
+abbrev μ-loop : tie.MeasureT-loop
+μ-loop ground from end i₀ i = end - i
+
+loop-holds : tie.Need-loop-holds Inv-loop μ-loop
+loop-holds c = omega arith
+
+shared-slice-read-if1 : tie.Need-shared-slice-read-if1 Inv-loop μ-loop
+shared-slice-read-if1 c = omega arith
+
+pattern-requires : tie.Need-pattern-requires Inv-loop μ-loop
+pattern-requires c κs = tt
+
+returns : tie.Need-returns Inv-loop μ-loop
+returns c = record { holds = (omega arith, omega arith) }
+
+add-i : tie.Need-add-i Inv-loop μ-loop
+add-i c = omega arith
+
+loop-less : tie.Need-loop-less Inv-loop μ-loop
+loop-less c = omega arith
+
+loop-again : tie.Need-loop-again Inv-loop μ-loop
+loop-again c = omega arith
+
+returns-2 : tie.Need-returns-2 Inv-loop μ-loop
+returns-2 c = record { holds = tt }
+
+pub changed-spec : {M : Type 1} → statement M
+changed-spec =
+    tie.close
+    (tie.spec
+    Inv-loop
+    μ-loop
+    loop-holds
+    shared-slice-read-if1
+    pattern-requires
+    returns
+    add-i
+    loop-less
+    loop-again
+    returns-2)

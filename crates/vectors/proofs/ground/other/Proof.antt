@@ -1,0 +1,55 @@
+-- `other` looks at the places of the text.
+use Prim.Native.Nat.{_-_}
+use native.Mathlib.Omega.{arith}
+use lib.ListN.{length}
+use Rattle.vectors.proofs.ground.other.Statement.{statement}
+use Rattle.vectors.proofs.ground.other.Tie as tie
+
+abbrev Inv-loop : tie.InvT-loop
+Inv-loop text ground from i₀ i = Unit {0}
+
+abbrev μ-loop : tie.MeasureT-loop
+μ-loop text ground from i₀ i = length text - i
+
+loop-holds : tie.Need-loop-holds Inv-loop μ-loop
+loop-holds c = tt
+
+add-if1 : tie.Need-add-if1 Inv-loop μ-loop
+add-if1 c = omega arith
+
+shared-slice-read-if1 : tie.Need-shared-slice-read-if1 Inv-loop μ-loop
+shared-slice-read-if1 c = omega arith
+
+shared-slice-read-if1-2 : tie.Need-shared-slice-read-if1-2 Inv-loop μ-loop
+shared-slice-read-if1-2 c = omega arith
+
+returns : tie.Need-returns Inv-loop μ-loop
+returns c = record { holds = (omega arith, omega arith) }
+
+add-i : tie.Need-add-i Inv-loop μ-loop
+add-i c = omega arith
+
+loop-less : tie.Need-loop-less Inv-loop μ-loop
+loop-less c = omega arith
+
+loop-again : tie.Need-loop-again Inv-loop μ-loop
+loop-again c = tt
+
+returns-2 : tie.Need-returns-2 Inv-loop μ-loop
+returns-2 c = record { holds = tt }
+
+pub other-spec : {M : Type 1} → statement M
+other-spec =
+    tie.close
+    (tie.spec
+    Inv-loop
+    μ-loop
+    loop-holds
+    add-if1
+    shared-slice-read-if1
+    shared-slice-read-if1-2
+    returns
+    add-i
+    loop-less
+    loop-again
+    returns-2)
