@@ -3,6 +3,7 @@ pub mod Bounds
 pub mod BySets
 pub mod Checks
 pub mod Combinations
+pub mod EntryLaws
 pub mod Extremes
 pub mod Fitting
 pub mod Growth

@@ -1,1 +1,81 @@
-// Ports no file of the original: sizing is added. What a format's size is stands in specs/, that it is so in proofs/.
+// Sizing, which the original hasn't: the exact least buffer of a format.
+ghost use mathlib.Core.Path.{_≡_};
+ghost use mathlib.Core.Bool.{true};
+ghost use Prim.Native.Nat.{_≤_, min, max};
+ghost use lib.ListN.{length};
+ghost use Rattle.rules.specs.Record.{within};
+ghost use Rattle.rules.specs.Refusal.{numbered};
+ghost use Rattle.rules.specs.Format.{items, whole};
+ghost use Rattle.rules.specs.Size.{AnyStamp, GoodStamp, Sizing};
+ghost use Rattle.sizing.specs.Witness.{longestIn, lengthAt, sizeOf};
+use reading::is_valid;
+use rules::Answer;
+use rules::Record;
+use rules::Refusal;
+use strftime::run;
+
+// The record that is longest in every field but the month.
+fn witness(month: u8) -> Record
+    ensures { λ r. ⌜ r ≡ longestIn month 0 .time ⌝ }
+{
+    Record {
+        year: -2_147_483_648,
+        month,
+        day: 28,
+        hour: 22,
+        minute: 59,
+        second: 59,
+        nanoseconds: 0,
+        day_of_week: 3,
+        day_of_year: 200,
+        to_int: -9_223_372_036_854_775_808,
+        is_utc: false,
+        utc_offset: -2_147_483_648,
+    }
+}
+
+// The length of its text, or 65,537 for every length above 65,536. It is counted, not written: the slice that is lent is empty.
+fn needed(format: &[u8], longest_zone: usize, month: u8) -> usize
+    requires { ⌜ (length (now format) ≤ 4096) × (whole (items (now format)) ≡ true) × («longest_zone» ≤ 64) × (within 1 12 month ≡ true) ⌝ }
+    ensures { λ r. ⌜ r ≡ min 65537 (lengthAt (longestIn month «longest_zone») (now (format .entry))) ⌝ }
+{
+    let zone = [b'A'; 64];
+    let mut none = [0u8; 1];
+    let end = run(
+        format,
+        &zone[..longest_zone],
+        witness(month),
+        &mut none[..0],
+        65536,
+    );
+    if end > 65536 { 65537 } else { end }
+}
+
+fn greater_of(a: usize, b: usize) -> usize
+    ensures { λ r. ⌜ r ≡ max a b ⌝ }
+{
+    if a < b { b } else { a }
+}
+
+// The least buffer that holds the text of every record whose zone name has at most `longest_zone` bytes.
+pub fn size(format: &[u8], longest_zone: usize) -> Answer
+    ensures answer { λ r. ⌜ numbered r ≡ sizeOf (now (format .entry)) «longest_zone» ⌝ }
+    ensures demand { λ r. ⌜ Sizing (AnyStamp «longest_zone») (GoodStamp «longest_zone») (now (format .entry)) «longest_zone» (numbered r) ⌝ }
+{
+    if format.len() > 4096 {
+        return Answer::Refused(Refusal::InputTooLong);
+    }
+    if longest_zone > 64 {
+        return Answer::Refused(Refusal::InputTooLong);
+    }
+    if !is_valid(format) {
+        return Answer::Refused(Refusal::InvalidFormatString);
+    }
+    let september = needed(format, longest_zone, 9);
+    let december = needed(format, longest_zone, 12);
+    let bytes = greater_of(september, december);
+    if bytes > 65536 {
+        return Answer::Refused(Refusal::NoBuffer);
+    }
+    Answer::Done(bytes)
+}

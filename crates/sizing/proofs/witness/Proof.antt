@@ -1,0 +1,10 @@
+use mathlib.Core.Path.{refl}
+use Rattle.sizing.specs.Witness as sizes
+use Rattle.sizing.proofs.witness.Statement.{statement}
+use Rattle.sizing.proofs.witness.Tie as tie
+
+returns : tie.Need-returns
+returns c = unfold sizes.witness in refl
+
+pub witness-spec : {M : Type 1} → statement M
+witness-spec = tie.close (tie.spec returns)
