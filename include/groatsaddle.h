@@ -44,7 +44,9 @@ enum {
     /* WriteZero: the buffer is too short for the text. */
     gs_WRITE_ZERO = 4,
     /* InputTooLong: an input is longer than the lengths above. It comes before every other refusal. */
-    gs_INPUT_TOO_LONG = 5
+    gs_INPUT_TOO_LONG = 5,
+    /* NoBuffer, of gs_size only: some record with all fields in range has its text in no buffer of 65,536 bytes. */
+    gs_NO_BUFFER = 6
 };
 
 /* The fields are independent: nothing asks that the weekday and the date agree. A field is checked where a directive
@@ -66,7 +68,7 @@ typedef struct {
 
 typedef struct {
     uint32_t refusal; /* gs_DONE, or why there is no text */
-    uint32_t length;  /* bytes of text; 0 where refused */
+    uint32_t length;  /* bytes of text, or the size asked for; 0 where refused */
 } gs_answer;
 
 /* Writes the text of the record, as the format says, to the front of the buffer.
@@ -82,6 +84,15 @@ gs_answer gs_format(const uint8_t *format, size_t format_len,
                     const uint8_t *zone, size_t zone_len,
                     gs_record record,
                     uint8_t *buffer, size_t buffer_len);
+
+/* Gives, as `length`, the bytes that a buffer needs for this format, whatever the record: in a buffer of that length
+   every record whose zone name has at most longest_zone bytes gets its text or gs_INVALID_TIME, and some record with all
+   fields in range needs every byte of it.
+
+   Read: format_len bytes from format, which may be NULL where that is 0. Nothing is written.
+
+   Refused, in this order: gs_INPUT_TOO_LONG (longest_zone above 64 too), gs_INVALID_FORMAT_STRING, gs_NO_BUFFER. */
+gs_answer gs_size(const uint8_t *format, size_t format_len, size_t longest_zone);
 
 #ifdef __cplusplus
 }

@@ -34,4 +34,6 @@ extern "C" {
         buffer: *mut u8,
         buffer_len: usize,
     ) -> Answer;
+
+    pub(crate) fn gs_size(format: *const u8, format_len: usize, longest_zone: usize) -> Answer;
 }

@@ -32,16 +32,19 @@
 //!
 //! Text and errors are the original's, but for these: an error changes no byte of the buffer, every
 //! method of [`Time`] is called once whatever the format reads, and longer inputs than
-//! [`LONGEST_FORMAT`], [`LONGEST_ZONE`] and [`LONGEST_BUFFER`] are [`Error::InputTooLong`].
+//! [`LONGEST_FORMAT`], [`LONGEST_ZONE`] and [`LONGEST_BUFFER`] are [`Error::InputTooLong`]. The errors
+//! of the original's other writers (`FmtError`, `OutOfMemory`, `IoError`) are not there.
 
 #![no_std]
 
 mod abi;
 pub mod buffered;
 mod error;
+mod size;
 mod time;
 
 pub use error::Error;
+pub use size::size;
 pub use time::Time;
 
 /// The longest format, in bytes.

@@ -1,8 +1,8 @@
 -- What crosses to a C caller: the record, the length, the answer.
-use mathlib.Core.Path.{_≡_, refl, sym, ap, _∙_}
+use mathlib.Core.Path.{_≡_, refl, _∙_}
 use mathlib.Core.Bool.{Bool, not}
 use mathlib.Core.List.{List}
-use Prim.Native.Nat.{ℕ, _≤_, _<_}
+use Prim.Native.Nat.{ℕ, _≤_}
 use native.Mathlib.Decide.{decLe}
 use native.Mathlib.Omega.{arith}
 use lib.Dec.{eqb}
@@ -15,6 +15,8 @@ use Rattle.rules.specs.declared.Answer.the-variants.{Done, Refused}
 use Rattle.rules.specs.Refusal.{numberOf, Report, numbered}
 use Rattle.rules.specs.Event.{Outcome, done, refused, reported, bufferAfter}
 use Rattle.rules.specs.Format.{formatted}
+use Rattle.rules.specs.Size.{AnyStamp, GoodStamp, Sizing}
+use Rattle.sizing.specs.Witness.{sizeOf}
 use Rattle.rules.proofs.FormatLaws.{format-too-long, zone-too-long, buffer-too-long}
 use Rattle.rules.proofs.Demands.{done-fits}
 use Rattle.abi.specs.declared.GsRecord.{GsRecord}
@@ -74,34 +76,39 @@ done-small format zone r room text e =
       ]
     ]
 
-bytesIn : Report → ℕ
-bytesIn r = r .bytes
-
-pub length-small : (format zone : List ℕ) (r : Record) (room : ℕ) (a : Answer) {n : ℕ} → a ≡ Done n → numbered a ≡ reported (formatted format zone r room) → n ≤ 65536
-unfolding numbered reported bytesIn
-length-small format zone r room a {n} e h = go (formatted format zone r room) refl (ap numbered (sym e) ∙ h)
+pub report-small : (format zone : List ℕ) (r : Record) (room : ℕ) → reported (formatted format zone r room) .bytes ≤ 65536
+unfolding reported
+report-small format zone r room = go (formatted format zone r room) refl
   where
-    go : (o : Outcome) → formatted format zone r room ≡ o → numbered (Done n) ≡ reported o → n ≤ 65536
-    go (done text) q k = omega (arith, ap bytesIn k, done-small format zone r room text q)
-    go (refused number) q k = omega (arith, ap bytesIn k)
+    go : (o : Outcome) → formatted format zone r room ≡ o → reported o .bytes ≤ 65536
+    go (done text) e = done-small format zone r room text e
+    go (refused number) e = omega arith
 
 -- ## The answer
 
+-- an answer that reports what another does is as short
+pub same-small : {a b : Report} → a ≡ b → b .bytes ≤ 65536 → a .bytes ≤ 65536
+same-small e h = rw e h
+
+module _ (a : Answer) where
+  pub from-small : {n : ℕ} → a ≡ Done n → numbered a .bytes ≤ 65536 → n ≤ 65536
+  unfolding numbered
+  from-small e h = rw e at h
+
+  pub from-done : {n : ℕ} → a ≡ Done n → reportFrom (record { refusal = 0; length = n }) ≡ numbered a
+  unfolding reportFrom numbered
+  from-done e = rw e
+
+  pub from-refused : {q : Refusal} {n : ℕ} → a ≡ Refused q → n ≡ numberOf q → reportFrom (record { refusal = n; length = 0 }) ≡ numbered a
+  unfolding reportFrom numbered
+  from-refused e f = rw (e, f)
+
 -- a C caller's answer and buffer are what an outcome asks
-abbrev pub Answered : Outcome → List ℕ → GsAnswer → List ℕ → Type 0
-Answered outcome before g after = (reportFrom g ≡ reported outcome) × (after ≡ bufferAfter outcome before)
+module _ (format zone before : List ℕ) {t u : Record} (s : t ≡ u) {after : List ℕ} where
+  pub answered : {report : Report} (g : GsAnswer) → reportFrom g ≡ report → report ≡ reported (formatted format zone t (length before)) → after ≡ bufferAfter (formatted format zone t (length before)) before →
+      (reportFrom g ≡ reported (formatted format zone u (length before))) × (after ≡ bufferAfter (formatted format zone u (length before)) before)
+  answered g e h k = rw (← s) (e ∙ h, k)
 
-module _ (format zone before : List ℕ) {t u : Record} (s : t ≡ u) (a : Answer) {after : List ℕ} (h : numbered a ≡ reported (formatted format zone t (length before))) (k : after ≡ bufferAfter (formatted format zone t (length before)) before) where
-  same-outcome : formatted format zone t (length before) ≡ formatted format zone u (length before)
-  same-outcome = ap (λ (x : Record). formatted format zone x (length before)) s
-
-  pub answered-done : {n : ℕ} → a ≡ Done n → Answered (formatted format zone u (length before)) before (record { refusal = 0; length = n }) after
-  unfolding reportFrom numbered
-  answered-done e = (ap numbered (sym e) ∙ h ∙ ap reported same-outcome, k ∙ ap (λ (o : Outcome). bufferAfter o before) same-outcome)
-
-  pub answered-refused : {q : Refusal} {n : ℕ} → a ≡ Refused q → n ≡ numberOf q → Answered (formatted format zone u (length before)) before (record { refusal = n; length = 0 }) after
-  unfolding reportFrom numbered
-  answered-refused e f = (
-    ap (λ (m : ℕ). reportFrom (record { refusal = m; length = 0 })) f ∙ ap numbered (sym e) ∙ h ∙ ap reported same-outcome,
-    k ∙ ap (λ (o : Outcome). bufferAfter o before) same-outcome,
-  )
+pub sized : (format : List ℕ) (longest : ℕ) {report : Report} (g : GsAnswer) → reportFrom g ≡ report → report ≡ sizeOf format longest → Sizing (AnyStamp longest) (GoodStamp longest) format longest report →
+    (reportFrom g ≡ sizeOf format longest) × Sizing (AnyStamp longest) (GoodStamp longest) format longest (reportFrom g)
+sized format longest g e h k = (e ∙ h, rw e k)

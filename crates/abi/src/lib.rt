@@ -1,9 +1,12 @@
-// Ports lib.rs: the entries over the C ABI. `include/groatsaddle.h` declares them.
+// The entries over the C ABI: lib.rs of the original, and sizing. `include/groatsaddle.h` declares them.
 ghost use mathlib.Core.Path.{_≡_};
+ghost use Prim.Native.Nat.{_≤_};
 ghost use lib.ListN.{length};
 ghost use Rattle.rules.specs.Event.{reported, bufferAfter};
 ghost use Rattle.rules.specs.Format.{formatted};
-ghost use Rattle.rules.specs.Refusal.{numberOf};
+ghost use Rattle.rules.specs.Refusal.{numberOf, numbered};
+ghost use Rattle.rules.specs.Size.{AnyStamp, GoodStamp, Sizing};
+ghost use Rattle.sizing.specs.Witness.{sizeOf};
 ghost use Rattle.abi.specs.Entries.{recordFrom, reportFrom};
 use rules::Answer;
 use rules::Record;
@@ -64,6 +67,22 @@ fn number_of(refusal: Refusal) -> u32
     }
 }
 
+fn answer_from(answer: Answer) -> GsAnswer
+    requires { ⌜ numbered answer .bytes ≤ 65536 ⌝ }
+    ensures { λ r. ⌜ reportFrom r ≡ numbered answer ⌝ }
+{
+    match answer {
+        Answer::Done(length) => GsAnswer {
+            refusal: 0,
+            length: length as u32,
+        },
+        Answer::Refused(refusal) => GsAnswer {
+            refusal: number_of(refusal),
+            length: 0,
+        },
+    }
+}
+
 #[no_mangle]
 pub extern "C" fn gs_format(
     format: &[u8],
@@ -75,14 +94,14 @@ pub extern "C" fn gs_format(
     ensures buffer { λ r. ⌜ now (buffer .exit) ≡ bufferAfter (formatted (now (format .entry)) (now (zone .entry)) (recordFrom «record») (length (now (buffer .entry)))) (now (buffer .entry)) ⌝ }
 {
     let answer = strftime::format(format, zone, record_from(record), buffer);
-    match answer {
-        Answer::Done(length) => GsAnswer {
-            refusal: 0,
-            length: length as u32,
-        },
-        Answer::Refused(refusal) => GsAnswer {
-            refusal: number_of(refusal),
-            length: 0,
-        },
-    }
+    answer_from(answer)
+}
+
+#[no_mangle]
+pub extern "C" fn gs_size(format: &[u8], longest_zone: usize) -> GsAnswer
+    ensures answer { λ r. ⌜ reportFrom r ≡ sizeOf (now (format .entry)) «longest_zone» ⌝ }
+    ensures demand { λ r. ⌜ Sizing (AnyStamp «longest_zone») (GoodStamp «longest_zone») (now (format .entry)) «longest_zone» (reportFrom r) ⌝ }
+{
+    let answer = sizing::size(format, longest_zone);
+    answer_from(answer)
 }

@@ -6,7 +6,7 @@ use Prim.Native.Nat.{ℕ, zero, suc, _≤_, _<_, min, max}
 use native.Mathlib.Omega.{arith}
 use native.Mathlib.Decide.{decLt}
 use borrow.Author.Tests.{le-leb, lt-ltb, le-ltb}
-use lib.Dec.{ltb}
+use lib.Dec.{ltb, lit≤, nltb→le}
 use lib.ListN.{length, take, replicate}
 use Rattle.rules.specs.declared.Record.{Record}
 use Rattle.rules.specs.declared.Refusal.the-variants.{InputTooLong, InvalidFormatString, NoBuffer}
@@ -14,14 +14,15 @@ use Rattle.rules.specs.declared.Answer.{Answer}
 use Rattle.rules.specs.declared.Answer.the-variants.{Done, Refused}
 use Rattle.rules.specs.Ascii.{byte}
 use Rattle.rules.specs.Record.{within}
-use Rattle.rules.specs.Refusal.{numberOf, numbered}
+use Rattle.rules.specs.Refusal.{numberOf, Report, numbered}
 use Rattle.rules.specs.Event.{Event, Holds}
 use Rattle.rules.specs.Writing.{eventsOf}
 use Rattle.rules.specs.Format.{items, events, whole, limitOf, valid}
 use Rattle.rules.specs.Size.{AnyStamp, GoodStamp, Sizing}
+use Rattle.rules.proofs.EventLaws.{splitOn}
 use Rattle.text.specs.Ran.{Ran}
 use Rattle.text.proofs.EntryLaws.{counted, ran-refused}
-use Rattle.sizing.specs.Witness.{september, december, witness, longestIn, lengthAt, greater, refuses, needing, reportOf, sizeBy, sizeOf}
+use Rattle.sizing.specs.Witness.{september, december, witness, longestIn, lengthAt, greater, tooLong, noBuffer, refuses, needing, reportOf, sizeBy, sizeOf}
 use Rattle.sizing.proofs.Fitting.{run-fits}
 use Rattle.sizing.proofs.Checks.{in-range-holds}
 use Rattle.sizing.proofs.Members.{within-limit}
@@ -115,3 +116,14 @@ module _ (format : List ℕ) (longest : ℕ) where
         holds-all n e h =
             let is : n ≡ longest-text = omega arith in
             sized (Done n) (sym (kept-report ∙ rw (not-whole format f v k, le-ltb 65536 longest-text (omega arith), is)))
+
+-- no size is above 65,536
+pub size-small : (format : List ℕ) (longest : ℕ) → sizeOf format longest .bytes ≤ 65536
+unfolding sizeOf sizeBy reportOf
+size-small format longest =
+    splitOn Small (tooLong format longest) (λ t. lit≤ tt)
+    (λ t. splitOn Small (not (whole (items format))) (λ t. lit≤ tt)
+    (λ t. splitOn Small (noBuffer (longest-text format longest)) (λ t. lit≤ tt) (λ t. nltb→le _ _ t)))
+  where
+    Small : Report → Type 0
+    Small r = r .bytes ≤ 65536

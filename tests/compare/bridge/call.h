@@ -1,4 +1,5 @@
-/* A call on its way: this, then the bytes of format, zone name and buffer. Back come the answer and the buffer. */
+/* A call on its way: this, then the bytes of format, zone name and buffer. Back come the answer and the buffer.
+   A call of gs_size has no zone name and no buffer. */
 
 #ifndef CALL_H
 #define CALL_H
@@ -12,6 +13,8 @@ typedef struct {
     uint8_t format_is_null;
     uint8_t zone_is_null;
     uint8_t buffer_is_null;
+    uint8_t is_size;
+    uint64_t longest_zone;
     gs_record record;
 } call;
 

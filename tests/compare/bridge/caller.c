@@ -1,4 +1,4 @@
-/* gs_format for a program of this machine, over the server, which runs under an emulator. */
+/* The library for a program of this machine, over the server, which runs under an emulator. */
 
 #include "call.h"
 
@@ -62,6 +62,24 @@ static void receive_all(size_t length) {
     }
 }
 
+static gs_answer answer_of(call it, const uint8_t *format, const uint8_t *zone, uint8_t *buffer) {
+    gs_answer answer;
+    pthread_mutex_lock(&one_at_a_time);
+    if (server < 0)
+        start();
+    size_t end = append(0, &it, sizeof it);
+    end = append(end, format, it.format_len);
+    end = append(end, zone, it.zone_len);
+    end = append(end, buffer, it.buffer_len);
+    send_all(end);
+    receive_all(sizeof answer + it.buffer_len);
+    memcpy(&answer, message, sizeof answer);
+    if (it.buffer_len != 0)
+        memcpy(buffer, message + sizeof answer, it.buffer_len);
+    pthread_mutex_unlock(&one_at_a_time);
+    return answer;
+}
+
 gs_answer gs_format(const uint8_t *format, size_t format_len, const uint8_t *zone, size_t zone_len, gs_record record,
                     uint8_t *buffer, size_t buffer_len) {
     call it;
@@ -73,19 +91,15 @@ gs_answer gs_format(const uint8_t *format, size_t format_len, const uint8_t *zon
     it.zone_is_null = zone == NULL;
     it.buffer_is_null = buffer == NULL;
     it.record = record;
-    pthread_mutex_lock(&one_at_a_time);
-    if (server < 0)
-        start();
-    size_t end = append(0, &it, sizeof it);
-    end = append(end, format, format_len);
-    end = append(end, zone, zone_len);
-    end = append(end, buffer, buffer_len);
-    send_all(end);
-    gs_answer answer;
-    receive_all(sizeof answer + buffer_len);
-    memcpy(&answer, message, sizeof answer);
-    if (buffer_len != 0)
-        memcpy(buffer, message + sizeof answer, buffer_len);
-    pthread_mutex_unlock(&one_at_a_time);
-    return answer;
+    return answer_of(it, format, zone, buffer);
+}
+
+gs_answer gs_size(const uint8_t *format, size_t format_len, size_t longest_zone) {
+    call it;
+    memset(&it, 0, sizeof it);
+    it.is_size = 1;
+    it.format_len = format_len;
+    it.format_is_null = format == NULL;
+    it.longest_zone = longest_zone;
+    return answer_of(it, format, NULL, NULL);
 }

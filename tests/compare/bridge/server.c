@@ -63,11 +63,19 @@ static uint8_t mark(int at) {
     return (uint8_t)(at * 7 + 129);
 }
 
+static gs_answer answer_of(const call *it, uint8_t *format, uint8_t *zone, uint8_t *buffer) {
+    if (it->format_is_null)
+        format = NULL;
+    if (it->is_size)
+        return gs_size(format, it->format_len, it->longest_zone);
+    return gs_format(format, it->format_len, it->zone_is_null ? NULL : zone, it->zone_len, it->record,
+                     it->buffer_is_null ? NULL : buffer, it->buffer_len);
+}
+
 static void answer_call(const call *it, uint8_t *format, uint8_t *zone, uint8_t *buffer) {
     for (int at = 1; at <= GUARD; at++)
         buffer[-at] = mark(at);
-    gs_answer answer = gs_format(it->format_is_null ? NULL : format, it->format_len, it->zone_is_null ? NULL : zone,
-                                 it->zone_len, it->record, it->buffer_is_null ? NULL : buffer, it->buffer_len);
+    gs_answer answer = answer_of(it, format, zone, buffer);
     for (int at = 1; at <= GUARD; at++)
         if (buffer[-at] != mark(at))
             STOP("bridge: the library changed a byte before the buffer");
