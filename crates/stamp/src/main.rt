@@ -1,4 +1,4 @@
-// Prints the stamp that a format gives of one fixed time, or where the format is refused and why.
+// Prints the stamp that a format gives of one fixed time and the bytes that the format needs, or where the format is refused and why.
 mod refused;
 mod sample;
 mod usage;
@@ -13,8 +13,26 @@ fn show(format: &[u8]) {
         Answer::Done(bytes) => {
             say::text(say::front(&buffer, bytes));
             say::text(b"\n");
+            say_size(format);
         }
         Answer::Refused(refusal) => explain(refusal, format, &mut buffer),
+    }
+}
+
+// The bytes that the format needs, for any record.
+fn say_size(format: &[u8]) {
+    match sizing::size(format, 64) {
+        Answer::Done(bytes) => {
+            say::number(bytes as u64);
+            say::text(
+                b" bytes hold the stamp of any record whose zone name has at most 64 bytes\n",
+            );
+        }
+        Answer::Refused(refusal) => {
+            say::text(b"no buffer holds the stamp of every record: ");
+            say::refusal(refusal);
+            say::text(b"\n");
+        }
     }
 }
 
