@@ -1,2 +1,3 @@
 pub mod EntryOutcomes
+pub mod TwoLaws
 pub mod WalkLaws

@@ -1,4 +1,6 @@
 // Ports `TimeFormatter::fmt` of mod.rs and `buffered::strftime` of lib.rs.
+mod two;
+
 ghost use mathlib.Core.Path.{_≡_};
 ghost use Prim.Native.Nat.{_/_, _≤_, _<_, min};
 ghost use lib.ListN.{length, getD};
@@ -19,6 +21,8 @@ use rules::Refusal;
 use text::checked;
 use text::copy_front;
 use text::put_part;
+use text::put_two;
+use two::two_at;
 
 // Where an item ends: the place in the text, and the position in the format.
 pub struct Step {
@@ -40,6 +44,13 @@ pub fn item(
     requires { ⌜ Room (now out) room × (65536 ≤ limit) × (i < length (now format)) × (getD (now format) i 0 ≡ 37) ⌝ }
     ensures { λ r. ⌜ Stepped limit room «record» (now (zone .entry)) (now (format .entry)) i (now (out .entry)) at (now (out .exit)) r ⌝ }
 {
+    let value = two_at(format, i, record);
+    if value < 100 {
+        return Step {
+            at: put_two(out, at, room, value),
+            next: i + 2,
+        };
+    }
     let parsed = parse_spec(format, i + 1);
     let Parsed::Directive(piece, next) = parsed else {
         let Parsed::Echo(end) = parsed else {

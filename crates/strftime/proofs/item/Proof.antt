@@ -1,13 +1,32 @@
--- A directive, an echo or a cut, by what is parsed.
+-- Two quick digits; else a directive, an echo or a cut, by what is parsed.
 use mathlib.Core.Path.{_≡_, refl, sym, _∙_}
 use native.Mathlib.Omega.{arith}
 use Rattle.rules.specs.Format.{parseFrom}
 use Rattle.reading.proofs.Positions.{items-at}
 use Rattle.reading.proofs.ElseBranches.{only-cut}
+use Rattle.strftime.proofs.TwoLaws.{step-two}
 use Rattle.strftime.proofs.WalkLaws.{step-directive, step-echo, step-cut}
 use borrow.Author.Needs.{needs}
 use Rattle.strftime.proofs.item.Statement.{statement}
 use Rattle.strftime.proofs.item.Tie as tie
+
+two-at-requires : tie.Need-two-at-requires
+two-at-requires c κs = search needs
+
+put-two-requires : tie.Need-put-two-requires
+put-two-requires c κs = search needs
+
+add-t18 : tie.Need-add-t18
+add-t18 c = search needs
+
+same-length : tie.Need-same-length
+same-length c = search needs
+
+returns : tie.Need-returns
+returns c =
+    let s = c .before .before .before .before .before .before .before .before .before in
+    let found = c .before .before .before .before .before .two-at .ensures (c .before .before .before .before .if1 .taken) in
+    step-two _ (s .pre .3) (found .0) (found .1) refl (s .pre .1) (c .before .before .put-two .ensures _)
 
 add-parse-spec : tie.Need-add-parse-spec
 add-parse-spec c = search needs
@@ -24,51 +43,56 @@ enum-known-parsed-2 c = search needs
 checked-requires : tie.Need-checked-requires
 checked-requires c κs = search needs
 
-returns : tie.Need-returns
-returns c =
-    let s = c .before .before .before .before .before .before .before in
+returns-2 : tie.Need-returns-2
+returns-2 c =
+    let s = c .before .before .before .before .before .before .before .before .before in
     let p = c .before .before .before .parse-spec in
     step-cut _ (s .pre .2) refl (items-at _ _ .percent (s .pre .2) (s .pre .3) _ (sym (p .ensures) ∙ only-cut (p .result) (c .before .before .match .keys2) (c .before .match2 .keys2)))
     (c .checked .ensures _ _ _ (omega arith))
 
 put-part-requires : tie.Need-put-part-requires
 put-part-requires c κs =
-    let s = c .before .before .before .before .before .before .before .before .before in
+    let s = c .before .before .before .before .before .before .before .before .before .before .before in
     let q = items-at _ _ .percent (s .pre .2) (s .pre .3) _ (sym (c .before .before .before .before .before .parse-spec .ensures) ∙ c .before .before .parsed2 .given .1) in
     (s .pre .0, omega (arith, q .onward), q .within)
-
-same-length : tie.Need-same-length
-same-length c = search needs
-
-returns-2 : tie.Need-returns-2
-returns-2 c =
-    let s = c .before .before .before .before .before .before .before .before .before .before .before .before in
-    step-echo _ _ (items-at _ _ .percent (s .pre .2) (s .pre .3) _ (sym (c .before .before .before .before .before .before .before .before .parse-spec .ensures) ∙ c .before .before .before .before .before .parsed2 .given .1)) (c .before .before .put-part .ensures _)
-
-directive-requires : tie.Need-directive-requires
-directive-requires c κs = let s = c .before .before .before .before .before .before .before .before in (s .pre .0, s .pre .1)
 
 same-length-2 : tie.Need-same-length-2
 same-length-2 c = search needs
 
 returns-3 : tie.Need-returns-3
 returns-3 c =
-    let s = c .before .before .before .before .before .before .before .before .before .before .before in
+    let s = c .before .before .before .before .before .before .before .before .before .before .before .before .before .before in
+    step-echo _ _ (items-at _ _ .percent (s .pre .2) (s .pre .3) _ (sym (c .before .before .before .before .before .before .before .before .parse-spec .ensures) ∙ c .before .before .before .before .before .parsed2 .given .1)) (c .before .before .put-part .ensures _)
+
+directive-requires : tie.Need-directive-requires
+directive-requires c κs = search needs
+
+same-length-3 : tie.Need-same-length-3
+same-length-3 c = search needs
+
+returns-4 : tie.Need-returns-4
+returns-4 c =
+    let s = c .before .before .before .before .before .before .before .before .before .before .before .before .before in
     step-directive _ _ (items-at _ _ .percent (s .pre .2) (s .pre .3) _ (sym (c .before .before .before .before .before .before .before .parse-spec .ensures) ∙ c .before .before .before .before .before .parsed .given .1)) (c .before .before .directive .ensures)
 
 pub item-spec : {M : Type 1} → statement M
 item-spec =
     tie.close
     (tie.spec
+    two-at-requires
+    put-two-requires
+    add-t18
+    same-length
+    returns
     add-parse-spec
     parse-spec-requires
     enum-known-parsed
     enum-known-parsed-2
     checked-requires
-    returns
-    put-part-requires
-    same-length
     returns-2
-    directive-requires
+    put-part-requires
     same-length-2
-    returns-3)
+    returns-3
+    directive-requires
+    same-length-3
+    returns-4)
