@@ -1,10 +1,5 @@
 // Ports `Piece::fmt` of mod.rs: a directive, by its kind.
-ghost use mathlib.Core.Path.{_≡_};
-ghost use mathlib.Core.Bool.{true};
-ghost use mathlib.Core.List.{List};
-ghost use Prim.Native.Nat.{ℕ, _≤_};
-ghost use Rattle.rules.specs.declared.Record as declared;
-ghost use Rattle.rules.specs.declared.Spec as declaredSpec;
+ghost use Prim.Native.Nat.{_≤_};
 ghost use Rattle.rules.specs.Writing.{specEvents, eventsOf};
 ghost use Rattle.text.specs.Ran.{Ran};
 ghost use Rattle.text.specs.Room.{Room};
@@ -24,32 +19,12 @@ use number_directive::plain_number;
 use offset_directive::offset;
 use offset_directive::plain_offset;
 use printing::width_or;
-use rules::Padding;
 use rules::Piece;
 use rules::Record;
 use rules::Spec;
-use rules::Width;
 
-// Whether a directive has no flag, no width and the default padding.
-fn is_plain(piece: Piece) -> bool
-    ensures { λ r. ⌜ (r ≡ true → (s : declaredSpec.Spec) (t : declared.Record) (zone : List ℕ) → specEvents s piece t zone ≡ specEvents s (plainPiece s) t zone) ⌝ }
-{
-    let width = piece.width;
-    let Width::Unset = width else {
-        return false;
-    };
-    let padding = piece.padding;
-    let Padding::Left = padding else {
-        return false;
-    };
-    let flags = piece.flags;
-    if flags.left || flags.change {
-        return false;
-    }
-    !flags.upper
-}
-
-fn plain_directive(
+// A directive with no flag, no width and the default padding.
+pub fn plain_directive(
     out: &mut [u8],
     at: usize,
     room: usize,
@@ -72,7 +47,7 @@ fn plain_directive(
     }
 }
 
-fn other_directive(
+pub fn directive(
     out: &mut [u8],
     at: usize,
     room: usize,
@@ -82,7 +57,7 @@ fn other_directive(
     zone: &[u8],
 ) -> usize
     requires { ⌜ Room (now out) room × (65536 ≤ limit) ⌝ }
-    ensures { λ r. ⌜ Ran limit room (specEvents (piece .spec) piece «record» (now (zone .entry))) (now (out .entry)) at (now (out .exit)) r ⌝ }
+    ensures { λ r. ⌜ Ran limit room (eventsOf «record» (now (zone .entry)) piece) (now (out .entry)) at (now (out .exit)) r ⌝ }
 {
     let spec = piece.spec;
     let width = piece.width;
@@ -102,23 +77,4 @@ fn other_directive(
         Spec::Fixed(f) => fixed(out, at, room, limit, piece, f),
         Spec::Combination(c) => combination(out, at, room, limit, piece, c, record),
     }
-}
-
-pub fn directive(
-    out: &mut [u8],
-    at: usize,
-    room: usize,
-    limit: usize,
-    piece: Piece,
-    record: Record,
-    zone: &[u8],
-) -> usize
-    requires { ⌜ Room (now out) room × (65536 ≤ limit) ⌝ }
-    ensures { λ r. ⌜ Ran limit room (eventsOf «record» (now (zone .entry)) piece) (now (out .entry)) at (now (out .exit)) r ⌝ }
-{
-    if is_plain(piece) {
-        let spec = piece.spec;
-        return plain_directive(out, at, room, limit, spec, record, zone);
-    }
-    other_directive(out, at, room, limit, piece, record, zone)
 }

@@ -1,7 +1,7 @@
 -- What the entry answers, and the buffer afterwards, for each way through it.
 use mathlib.Core.Path.{_≡_, refl, sym, ap, subst, _∙_}
 use mathlib.Core.List.{List, _++_}
-use Prim.Native.Nat.{ℕ, _/_, _%_, _≤_, _<_}
+use Prim.Native.Nat.{ℕ, _/_, _≤_, _<_}
 use native.Mathlib.Omega.{arith}
 use lib.Dec.{lit≤}
 use lib.ListN.{length, take, drop}
@@ -10,11 +10,11 @@ use Rattle.rules.specs.declared.Refusal.the-variants.{InputTooLong}
 use Rattle.rules.specs.declared.Answer.{Answer}
 use Rattle.rules.specs.declared.Answer.the-variants.{Done, Refused}
 use Rattle.rules.specs.Refusal.{numberOf, numbered}
-use Rattle.rules.specs.Event.{Event, textOf, Count, at, tally, Outcome, done, refused, run, reported, bufferAfter}
+use Rattle.rules.specs.Event.{Event, at, tally, Outcome, refused, run, reported, bufferAfter}
 use Rattle.rules.proofs.FormatLaws.{Among, Numbered, CountOk, tally-ok}
-use Rattle.text.specs.Ran.{countAt, Ran}
+use Rattle.text.specs.Ran.{Ran}
 use Rattle.text.proofs.PlaceLaws.{count-at, count-no}
-use Rattle.text.proofs.EntryLaws.{same-end, inside, ran-done, ran-refused, ran-length, untouched, written, copied}
+use Rattle.text.proofs.EntryLaws.{inside, ran-done, ran-refused, ran-length, untouched, written, copied}
 
 -- an answer and a buffer are what an outcome asks
 abbrev pub Promised : Outcome → List ℕ → Answer → List ℕ → Type 0

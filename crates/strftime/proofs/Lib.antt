@@ -1,3 +1,4 @@
 pub mod EntryOutcomes
+pub mod LetterLaws
 pub mod TwoLaws
 pub mod WalkLaws

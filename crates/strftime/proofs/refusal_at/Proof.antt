@@ -1,8 +1,6 @@
 -- Each arm has its number.
-use mathlib.Core.Path.{_≡_, sym}
 use native.Mathlib.Omega.{arith}
 use Rattle.rules.specs.Refusal.{numberOf}
-use borrow.Author.Needs.{needs}
 use Rattle.strftime.proofs.refusal_at.Statement.{statement}
 use Rattle.strftime.proofs.refusal_at.Tie as tie
 
