@@ -3,7 +3,7 @@ ghost use Prim.Native.Nat.{_≤_, _<_};
 ghost use lib.ListN.{length};
 ghost use Rattle.stamp.specs.Within.{ItemWithin};
 use crate::sample::stamp;
-use reading::parse_spec;
+use cursor::parsed_at;
 use rules::Answer;
 use rules::Parsed;
 use rules::Refusal;
@@ -22,7 +22,7 @@ fn item_end(format: &[u8], at: usize) -> usize
     if format[at] != b'%' {
         return at + 1;
     }
-    match parse_spec(format, at + 1) {
+    match parsed_at(format, at + 1) {
         Parsed::Directive(_, next) => next,
         Parsed::Echo(next) => next,
         Parsed::Cut => format.len(),

@@ -15,11 +15,11 @@ add-result c = search needs
 returns : tie.Need-returns
 returns c = search needs
 
-add-parse-spec : tie.Need-add-parse-spec
-add-parse-spec c = search needs
+add-parsed-at : tie.Need-add-parsed-at
+add-parsed-at c = search needs
 
-parse-spec-requires : tie.Need-parse-spec-requires
-parse-spec-requires c κs = search needs
+parsed-at-requires : tie.Need-parsed-at-requires
+parsed-at-requires c κs = search needs
 
 enum-known-next : tie.Need-enum-known-next
 enum-known-next c = search needs
@@ -31,10 +31,10 @@ enum-told : tie.Need-enum-told
 enum-told c = search needs
 
 returns-2 : tie.Need-returns-2
-returns-2 c = let item = items-at (now (c .before .before .before .before .before .before .before .args .format)) (c .before .before .before .before .before .before .before .args .at) .percent (c .before .before .before .before .before .before .before .pre) (c .before .before .before .before .if1 .left) _ (sym (c .before .before .before .parse-spec .ensures) ∙ c .before .next .given .1) in (item .onward, item .within)
+returns-2 c = let item = items-at (now (c .before .before .before .before .before .before .before .args .format)) (c .before .before .before .before .before .before .before .args .at) .percent (c .before .before .before .before .before .before .before .pre) (c .before .before .before .before .if1 .left) _ (sym (c .before .before .before .parsed-at .ensures) ∙ c .before .next .given .1) in (item .onward, item .within)
 
 returns-3 : tie.Need-returns-3
-returns-3 c = let item = items-at (now (c .before .before .before .before .before .before .before .args .format)) (c .before .before .before .before .before .before .before .args .at) .percent (c .before .before .before .before .before .before .before .pre) (c .before .before .before .before .if1 .left) _ (sym (c .before .before .before .parse-spec .ensures) ∙ c .before .next2 .given .1) in (item .onward, item .within)
+returns-3 c = let item = items-at (now (c .before .before .before .before .before .before .before .args .format)) (c .before .before .before .before .before .before .before .args .at) .percent (c .before .before .before .before .before .before .before .pre) (c .before .before .before .before .if1 .left) _ (sym (c .before .before .before .parsed-at .ensures) ∙ c .before .next2 .given .1) in (item .onward, item .within)
 
 returns-4 : tie.Need-returns-4
 returns-4 c = search needs
@@ -46,8 +46,8 @@ item-end-spec =
     shared-slice-read-if1
     add-result
     returns
-    add-parse-spec
-    parse-spec-requires
+    add-parsed-at
+    parsed-at-requires
     enum-known-next
     enum-known-next-2
     enum-told

@@ -1,0 +1,5 @@
+pub mod Held
+pub mod Positions
+pub mod Thin
+pub mod UnreadLaws
+pub mod Walks

@@ -1,0 +1,123 @@
+// Ports `Cursor` of utils.rs. A function over the struct is proved by hand, so each hands its slice on to one that takes plain slices.
+// The original's `next` and `read_optional_tag` go on behind what they found; here the struct is passed by value, and `advanced` goes on.
+ghost use mathlib.Core.Path.{_≡_};
+ghost use lib.ListN.{drop};
+ghost use Rattle.rules.specs.declared.Reading.the-variants.{InFlags};
+ghost use Rattle.rules.specs.Reading.{outset};
+ghost use Rattle.rules.specs.Format.{parseFrom};
+ghost use Rattle.cursor.specs.Unread.{nextOf, startsWith};
+use reading::parse_spec;
+use rules::Parsed;
+
+pub enum Next {
+    Byte(u8),
+    End,
+}
+
+fn first_of(remaining: &[u8]) -> Next
+    ensures { λ r. ⌜ r ≡ nextOf (now (remaining .entry)) ⌝ }
+{
+    if 0 < remaining.len() {
+        Next::Byte(remaining[0])
+    } else {
+        Next::End
+    }
+}
+
+fn starts_with(remaining: &[u8], tag: &[u8]) -> bool
+    ensures { λ r. ⌜ r ≡ startsWith (now (tag .entry)) (now (remaining .entry)) ⌝ }
+{
+    if remaining.len() < tag.len() {
+        return false;
+    }
+    let mut i = 0;
+    while i < tag.len() {
+        if remaining[i] != tag[i] {
+            return false;
+        }
+        i += 1;
+    }
+    true
+}
+
+// What is left behind `n` bytes: nothing where there are fewer.
+fn tail<'a>(remaining: &'a [u8], n: usize) -> &'a [u8]
+    ensures { λ r. ⌜ now r ≡ drop n (now (remaining .entry)) ⌝ }
+{
+    if n < remaining.len() {
+        return &remaining[n..];
+    }
+    &remaining[..0]
+}
+
+// What stands behind a percent sign, by positions that count from there.
+fn parse_front(remaining: &[u8]) -> Parsed
+    ensures { λ r. ⌜ r ≡ parseFrom (InFlags outset) 0 (now (remaining .entry)) ⌝ }
+{
+    parse_spec(remaining, 0)
+}
+
+// "A `Cursor` contains a slice of a buffer": the data that remains to be read.
+pub struct Cursor<'a> {
+    pub remaining: &'a [u8],
+}
+
+impl<'a> Cursor<'a> {
+    pub fn new(remaining: &'a [u8]) -> Self
+        ensures { λ r. ⌜ r .remaining ≡ remaining .entry ⌝ }
+    {
+        Self { remaining }
+    }
+
+    pub fn remaining(self) -> &'a [u8]
+        ensures { λ r. ⌜ r ≡ self .entry .remaining ⌝ }
+    {
+        self.remaining
+    }
+
+    pub fn next(self) -> Next
+        ensures { λ r. ⌜ r ≡ nextOf (now (self .entry .remaining)) ⌝ }
+    {
+        first_of(self.remaining)
+    }
+
+    pub fn read_optional_tag(self, tag: &[u8]) -> bool
+        ensures { λ r. ⌜ r ≡ startsWith (now (tag .entry)) (now (self .entry .remaining)) ⌝ }
+    {
+        starts_with(self.remaining, tag)
+    }
+
+    // The original's `read_exact`: the cursor behind `n` bytes.
+    pub fn advanced(self, n: usize) -> Self
+        ensures { λ r. ⌜ now (r .remaining) ≡ drop n (now (self .entry .remaining)) ⌝ }
+    {
+        Self {
+            remaining: tail(self.remaining, n),
+        }
+    }
+
+    // What stands behind a percent sign, the cursor being there.
+    pub fn parsed(self) -> Parsed
+        ensures { λ r. ⌜ r ≡ parseFrom (InFlags outset) 0 (now (self .entry .remaining)) ⌝ }
+    {
+        parse_front(self.remaining)
+    }
+}
+
+// What a cursor parses behind the first `i` bytes of a format.
+fn parsed_after(format: &[u8], i: usize) -> Parsed
+    ensures { λ r. ⌜ r ≡ parseFrom (InFlags outset) 0 (drop i (now (format .entry))) ⌝ }
+{
+    Cursor::new(format).advanced(i).parsed()
+}
+
+// The same by positions in the format. Its parameters are plain, so whoever calls it needs no proof by hand.
+pub fn parsed_at(format: &[u8], i: usize) -> Parsed
+    ensures { λ r. ⌜ r ≡ parseFrom (InFlags outset) i (drop i (now (format .entry))) ⌝ }
+{
+    match parsed_after(format, i) {
+        Parsed::Directive(piece, next) => Parsed::Directive(piece, i + next),
+        Parsed::Echo(next) => Parsed::Echo(i + next),
+        Parsed::Cut => Parsed::Cut,
+    }
+}
