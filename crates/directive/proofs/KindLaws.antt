@@ -8,7 +8,6 @@ use Rattle.rules.specs.declared.Padding.the-variants.{Left}
 use Rattle.rules.specs.declared.Width.the-variants.{Unset}
 use Rattle.rules.specs.declared.Spec.{Spec}
 use Rattle.rules.specs.declared.Piece.{Piece}
-use Rattle.rules.specs.Event.{Event}
 use Rattle.rules.specs.Reading.{noFlags}
 use Rattle.rules.specs.Writing.{specEvents}
 use Rattle.rules.proofs.WritingLaws.{pieceWith, events-blind}
