@@ -4,13 +4,12 @@ ghost use Prim.Native.Nat.{_≤_};
 ghost use lib.ListN.{length};
 ghost use Rattle.rules.specs.Event.{reported, bufferAfter};
 ghost use Rattle.rules.specs.Format.{formatted};
-ghost use Rattle.rules.specs.Refusal.{numberOf, numbered};
+ghost use Rattle.rules.specs.Refusal.{numbered};
 ghost use Rattle.rules.specs.Size.{AnyStamp, GoodStamp, Sizing};
 ghost use Rattle.sizing.specs.Witness.{sizeOf};
 ghost use Rattle.abi.specs.Entries.{recordFrom, reportFrom};
 use rules::Answer;
 use rules::Record;
-use rules::Refusal;
 
 // `is_utc` is a byte, since a C caller can put anything there: 0 is no, all else is yes.
 #[repr(C)]
@@ -54,19 +53,6 @@ fn record_from(r: GsRecord) -> Record
     }
 }
 
-fn number_of(refusal: Refusal) -> u32
-    ensures { λ r. ⌜ r ≡ numberOf refusal ⌝ }
-{
-    match refusal {
-        Refusal::InvalidTime => 1,
-        Refusal::InvalidFormatString => 2,
-        Refusal::FormattedStringTooLarge => 3,
-        Refusal::WriteZero => 4,
-        Refusal::InputTooLong => 5,
-        Refusal::NoBuffer => 6,
-    }
-}
-
 fn answer_from(answer: Answer) -> GsAnswer
     requires { ⌜ numbered answer .bytes ≤ 65536 ⌝ }
     ensures { λ r. ⌜ reportFrom r ≡ numbered answer ⌝ }
@@ -77,7 +63,7 @@ fn answer_from(answer: Answer) -> GsAnswer
             length: length as u32,
         },
         Answer::Refused(refusal) => GsAnswer {
-            refusal: number_of(refusal),
+            refusal: rules::number_of(refusal),
             length: 0,
         },
     }

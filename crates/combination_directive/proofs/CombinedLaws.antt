@@ -4,7 +4,6 @@ use mathlib.Core.Bool.{Bool, true, false, not}
 use mathlib.Core.List.{List, [], _∷_}
 use Prim.Native.Nat.{ℕ, _≤_}
 use native.Mathlib.Nat.{zero-sub}
-use native.Mathlib.Omega.{arith}
 use lib.ListN.{length}
 use borrow.Author.Tests.{not-true, not-false}
 use Rattle.rules.specs.declared.Combination.{Combination}
@@ -13,22 +12,23 @@ use Rattle.rules.specs.declared.Piece.{Piece}
 use Rattle.rules.specs.declared.Record.{Record}
 use Rattle.rules.specs.declared.Spec.the-variants.{Combination as combination}
 use Rattle.rules.specs.Event.{put, pad, Event, write, check}
-use Rattle.rules.specs.Record.{allOk}
+use Rattle.rules.specs.Record.{Field, allOk}
 use Rattle.rules.specs.Writing.{padTo, combinationLength, combinationText, combinationFields, fieldsOf, leadOf, bodyOf, specEvents}
+use Rattle.rules.proofs.RecordLaws.{Each, ranges-of}
 use Rattle.text.specs.Ran.{Ran}
 use Rattle.text.specs.Room.{Room}
-use Rattle.text.proofs.RanLaws.{_then_, same-events, said, told, checks-hold, stopped}
+use Rattle.text.proofs.RanLaws.{room-short, _then_, same-events, said, told, checks-hold, stopped}
 use Rattle.printing.specs.Plain.{plainPiece}
 use Rattle.combination_directive.specs.Combined.{combinedEvents, Combined}
 
-short : {l : List ℕ} {room : ℕ} → Room l room → length l ≤ 65536
-short g = omega (arith, g .within, g .small)
-
 -- ## The check and the text
+
+pub in-range : (fs : List Field) (r : Record) {ok : Bool} → ok ≡ allOk fs r [] → not ok ≡ false → Each fs r
+in-range fs r e t = ranges-of fs r [] (sym e ∙ not-false _ t)
 
 module _ (c : Combination) (r : Record) {ok : Bool} (checked : (zone : List ℕ) → ok ≡ allOk (combinationFields c) r zone) where
   pub failed : {room : ℕ} {upper : Bool} {l : List ℕ} {n n′ : ℕ} → not ok ≡ true → Room l room → ((limit room : ℕ) (l : List ℕ) → length l ≤ 65536 → Ran limit room (check false 1 ∷ []) l n l n′) → Combined room c upper r l n l n′
-  failed t g w = λ limit f zone e. told (sym (not-true ok t) ∙ checked zone) (stopped (short g) (w limit _ _ (short g)))
+  failed t g w = λ limit f zone e. told (sym (not-true ok t) ∙ checked zone) (stopped (room-short g) (w limit _ _ (room-short g)))
 
   pub written : {room : ℕ} {upper : Bool} {t l l′ : List ℕ} {n n′ : ℕ} → not ok ≡ false → ((f : Flags) → f .upper ≡ upper → t ≡ combinationText c f r) → ((limit : ℕ) → Ran limit room (write (put t) ∷ []) l n l′ n′) → Combined room c upper r l n l′ n′
   written t q w = λ limit f zone e. told (sym (not-false ok t) ∙ checked zone) (checks-hold (said (q f e) (w limit)))

@@ -1,4 +1,3 @@
-pub mod RangeLaws
 pub mod TextLaws
 pub mod LengthLaws
 pub mod CombinedLaws

@@ -1,12 +1,12 @@
 -- The text of each combination, from its parts as the code computes them.
-use mathlib.Core.Path.{_≡_, refl, sym, ap, ap₂, _∙_}
+use mathlib.Core.Path.{_≡_, refl, sym, ap, _∙_}
 use mathlib.Core.Bool.{Bool, true, false, cond}
 use mathlib.Core.List.{List, [], _∷_, _++_, flatten, append-assoc, append-nil}
-use Prim.Native.Nat.{ℕ, _+_, _/_, _%_, _≤_, _<_}
+use Prim.Native.Nat.{ℕ, _+_, _%_, _≤_, _<_}
 use native.Mathlib.Decide.{decLt}
 use native.Mathlib.Omega.{arith}
 use lib.Dec.{ltb}
-use borrow.Author.Tests.{lt-ltb, le-ltb, eq-eqb, ne-eqb}
+use borrow.Author.Tests.{lt-ltb, le-ltb}
 use Rattle.rules.specs.declared.Combination.the-variants.{CombinationDateTime, CombinationDate, CombinationIso8601, CombinationVmsDate, CombinationTime12h, CombinationHourMinute24h, CombinationTime24h}
 use Rattle.rules.specs.declared.Flags.{Flags}
 use Rattle.rules.specs.declared.Record.{Record}
@@ -14,27 +14,17 @@ use Rattle.rules.specs.Ascii.{ascii}
 use Rattle.rules.specs.Decimal.{two, floorMod}
 use Rattle.rules.specs.Name.{dayName, monthName, abbreviated, raised, inCase, before12}
 use Rattle.rules.specs.Writing.{hour12, yearText, vmsYear, dayText, combinationText}
-use Rattle.rules.proofs.DecimalLaws.{two-digits-below, day-text-small, day-text-large}
+use Rattle.rules.proofs.DecimalLaws.{day-text-small, day-text-large}
 use Rattle.names.specs.Calendar.{caseBy}
 use Rattle.combination_directive.specs.Combined.{spacedTens, halfOf}
 
 -- ## Digits and letters
-
-pub pair : (n : ℕ) {a b : ℕ} → n < 100 → a ≡ 48 + n / 10 → b ≡ 48 + n % 10 → a ∷ b ∷ [] ≡ two n
-pair n h p q = ap₂ (λ (x y : ℕ). x ∷ y ∷ []) p q ∙ sym (two-digits-below n h)
 
 pub spaced-pair : (n : ℕ) {a b : ℕ} → n < 100 → a ≡ spacedTens n → b ≡ 48 + n % 10 → a ∷ b ∷ [] ≡ dayText n
 spaced-pair n {a} {b} h p q =
     elim (decLt n 10) [
       | yes k ↦ let e : n % 10 ≡ n = omega arith in rw (p, q, lt-ltb n 10 k, e, day-text-small n k)
       | no k ↦ let l : 10 ≤ n = omega arith in rw (p, q, le-ltb n 10 l, day-text-large n l h)
-    ]
-
-pub hour12-below : (h : ℕ) → hour12 h < 100
-hour12-below h =
-    elim (decLt 0 (h % 12)) [
-      | yes k ↦ let n : h % 12 ≡ 0 → ⊥ = λ e. omega arith in rw (ne-eqb (h % 12) 0 n) (omega arith)
-      | no k ↦ let e : h % 12 ≡ 0 = omega arith in rw (eq-eqb (h % 12) 0 e) (omega arith)
     ]
 
 half-letters : (am : Bool) → cond am 65 80 ∷ 77 ∷ [] ≡ cond am (ascii "AM") (ascii "PM")

@@ -1,6 +1,6 @@
 -- Checks one after the other: of fields, of the two ends of a range, of the bytes of a zone name.
 use mathlib.Core.Path.{_≡_, refl, sym, _∙_}
-use mathlib.Core.Bool.{Bool, true, false, _&&_}
+use mathlib.Core.Bool.{Bool, true, false, _&&_, and-true, and-assoc}
 use mathlib.Core.List.{List, [], _∷_, _++_}
 use Prim.Native.Nat.{ℕ, _+_, _≤_, _<_}
 use native.Mathlib.Numerals.{add-one}
@@ -18,14 +18,6 @@ and-held b h = rw h
 
 and-failed : {a : Bool} (b : Bool) → a ≡ false → a ≡ (a && b)
 and-failed b h = rw h
-
-and-true : (a : Bool) → (a && true) ≡ a
-and-true true = refl
-and-true false = refl
-
-and-assoc : (a b c : Bool) → ((a && b) && c) ≡ (a && (b && c))
-and-assoc true b c = refl
-and-assoc false b c = refl
 
 -- ## A range
 

@@ -8,7 +8,7 @@ use borrow.Author.Tests.{lt-leb}
 use lib.Dec.{leb}
 use lib.ListN.{length, getD, set, length-map}
 use Rattle.rules.specs.declared.Flags.{Flags}
-use Rattle.rules.specs.Name.{upper, lower, Case, asItIs, raised, lowered, inCase, zoneCase}
+use Rattle.rules.specs.Name.{upper, inCase, zoneCase}
 use Rattle.rules.specs.Record.{within}
 use Rattle.text.proofs.OverlayLaws.{Laid, laid-more}
 use Rattle.fields.proofs.Laws.{least-held, least-failed}
@@ -36,12 +36,6 @@ pub laid-through : (f : ℕ → ℕ) (t : List ℕ) {at : ℕ} {l : List ℕ} {j
 laid-through f t {j = j} w h e = rw (e, ← map-at f t j h) (laid-more w (simp length-map h))
 
 -- ## A text in a case
-
-pub length-cased : (k : Case) (t : List ℕ) → length (inCase k t) ≡ length t
-unfolding inCase
-length-cased asItIs t = refl
-length-cased raised t = length-map t upper
-length-cased lowered t = length-map t lower
 
 module _ (f : Flags) (t : List ℕ) where
   pub zone-lowered : f .change ≡ true → map (byteIn true) t ≡ inCase (zoneCase f) t

@@ -1,14 +1,13 @@
 -- The letters of a name by its number: they are the name in its case, and so many; a checked field has a name.
 use mathlib.Core.Path.{_≡_, refl, sym, ap, subst, _∙_}
-use mathlib.Core.Bool.{Bool, true, false, cond, not, _&&_, _||_, or-comm}
+use mathlib.Core.Bool.{Bool, true, false, cond, not, _||_, or-comm}
 use mathlib.Core.Logic.{inl, inr}
 use mathlib.Core.List.{List, [], _∷_}
 use Prim.Native.Nat.{ℕ, _≤_}
 use native.Mathlib.Omega.{arith}
-use borrow.Author.Tests.{leb-true}
 use denote.Enum.Declared.{tagOf}
 use types.Run.{OneOf}
-use lib.Dec.{ltb, leb}
+use lib.Dec.{ltb}
 use lib.ListN.{length}
 use Rattle.rules.specs.declared.Flags.{Flags}
 use Rattle.rules.specs.declared.Name.{Name}
@@ -16,9 +15,10 @@ use Rattle.rules.specs.declared.Name.the-variants.{MonthName, MonthNameAbbr, Me
 use Rattle.rules.specs.declared.Record.{Record}
 use Rattle.rules.specs.Ascii.{ascii}
 use Rattle.rules.specs.Name.{dayName, monthName, abbreviated, upper, lower, asItIs, raised, lowered, inCase, before12, nameOf, caseOf}
-use Rattle.rules.specs.Record.{within, okField, allOk}
+use Rattle.rules.specs.Record.{allOk}
 use Rattle.rules.specs.Writing.{nameFields}
 use Rattle.rules.proofs.Name.{the-type}
+use Rattle.rules.proofs.RecordLaws.{Each, ranges-of}
 use Rattle.names.specs.Calendar.{caseBy, unpacked}
 use Rattle.names.proofs.CalendarLaws.{day-spelled, month-spelled}
 use Rattle.name_directive.specs.Named.{capitals, meridianText, numberOf, Named, lettersOf}
@@ -94,26 +94,14 @@ meridian-letters capital k = two-letters (ltb k 12) capital
 
 -- ## The field that a name reads
 
-both : (a b : Bool) → (a && b) ≡ true → (a ≡ true) × (b ≡ true)
-both true b e = (refl, e)
-both false b e = let z : _≡_ {A = ℕ} 0 1 = cc in absurd (omega arith)
-
-month-named : (k : ℕ) → (within 1 12 k && true) ≡ true → (1 ≤ k) × (k ≤ 12)
-month-named k e =
-    let ends = both (leb 1 k) (leb k 12) (both (within 1 12 k) true e .0) in
-    (leb-true 1 k (ends .0), leb-true k 12 (ends .1))
-
-day-named : (k : ℕ) → (leb k 6 && true) ≡ true → k ≤ 6
-day-named k e = leb-true k 6 (both (leb k 6) true e .0)
-
-checked-named : (n : Name) (r : Record) → allOk (nameFields n) r [] ≡ true → Named n (numberOf n r)
-unfolding nameFields allOk okField numberOf Named
-checked-named MonthName r e = month-named (r .month) e
-checked-named MonthNameAbbr r e = month-named (r .month) e
+checked-named : (n : Name) (r : Record) → Each (nameFields n) r → Named n (numberOf n r)
+unfolding nameFields numberOf Named
+checked-named MonthName r e = e .0
+checked-named MonthNameAbbr r e = e .0
 checked-named MeridianLower r e = tt
 checked-named MeridianUpper r e = tt
-checked-named WeekDayName r e = day-named (r .«day_of_week») e
-checked-named WeekDayNameAbbr r e = day-named (r .«day_of_week») e
+checked-named WeekDayName r e = e .0
+checked-named WeekDayNameAbbr r e = e .0
 
 pub in-range-named : (n : Name) (r : Record) {ok : Bool} {k : ℕ} → ((zone : List ℕ) → ok ≡ allOk (nameFields n) r zone) → ok ≡ true → k ≡ numberOf n r → Named n k
-in-range-named n r f t e = subst (λ (x : ℕ). Named n x) (sym e) (checked-named n r (sym (f []) ∙ t))
+in-range-named n r f t e = subst (λ (x : ℕ). Named n x) (sym e) (checked-named n r (ranges-of (nameFields n) r [] (sym (f []) ∙ t)))

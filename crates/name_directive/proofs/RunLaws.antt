@@ -17,17 +17,13 @@ use Rattle.rules.specs.Name.{inCase, nameOf, caseOf, zoneCase}
 use Rattle.rules.specs.Reading.{noFlags}
 use Rattle.rules.specs.Record.{zoneName, zoneOk, okField, allOk}
 use Rattle.rules.specs.Writing.{padTo, nameWrites, fixedByte, zoneWrites, nameFields, fieldsOf, leadOf, bodyOf, specEvents}
+use Rattle.rules.proofs.WidthLaws.{length-cased}
 use Rattle.text.specs.Ran.{Ran}
-use Rattle.text.specs.Room.{Room}
 use Rattle.text.proofs.RanLaws.{nothing, _then_, same-events, said, told, pad-none, checks-hold, stopped}
 use Rattle.fields.proofs.Laws.{alone}
 use Rattle.printing.specs.Plain.{plainPiece}
 use Rattle.name_directive.specs.Named.{padding, capitals, numberOf, lettersOf}
-use Rattle.name_directive.proofs.CaseLaws.{length-cased}
 use Rattle.name_directive.proofs.LetterLaws.{letters-cased}
-
-pub short : {l : List ℕ} {room : ℕ} → Room l room → length l ≤ 65536
-short r = omega (arith, r .within, r .small)
 
 letters-are : (n : Name) (p : Piece) (r : Record) {capital : Bool} {k : ℕ} → k ≡ numberOf n r → capital ≡ capitals n (p .flags) → lettersOf n capital k ≡ inCase (caseOf n (p .flags)) (nameOf n r)
 letters-are n p r e q = rw (e, q) (letters-cased n (p .flags) r)

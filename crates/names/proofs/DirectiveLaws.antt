@@ -13,6 +13,7 @@ use Rattle.rules.specs.declared.Entry.the-variants.{Is, Missing}
 use Rattle.rules.specs.declared.Modifier.{Modifier}
 use Rattle.rules.specs.Reading.{Row, member, modified, lookUp, possibleSpecs, specOf}
 use Rattle.rules.proofs.Tables.{letters}
+use Rattle.names.proofs.MatchLaws.{NoneOf, none-known}
 
 abbrev pub isEntry : Entry → Bool
 isEntry (Is s) = true
@@ -44,22 +45,14 @@ pub of-modifier : (b : ℕ) {m k : Modifier} → m ≡ k → member b (modified 
 of-modifier b e = ap (λ (m : Modifier). member b (modified m)) (sym e)
 
 module _ (b : ℕ) where
-  -- b is none of the letters of some rows, as the last arm of a match knows it
-  abbrev pub NoneOf : Type 0 → List Row → Type 0
-  NoneOf known [] = known
-  NoneOf known (r ∷ rows) = NoneOf (known × (b ≡ r .letter → ⊥)) rows
-
-  none-known : (rows : List Row) (known : Type 0) → NoneOf known rows → known
-  none-known [] known h = h
-  none-known (r ∷ rows) known h = none-known rows (known × (b ≡ r .letter → ⊥)) h .0
-
-  none-of : (rows : List Row) (known : Type 0) → NoneOf known rows → Missing ≡ lookUp b rows
+  none-of : (rows : List Row) (known : Type 0) → NoneOf b known (letters rows) → Missing ≡ lookUp b rows
   unfolding lookUp
   none-of [] known h = refl
   none-of (r ∷ rows) known h =
-      rw (ne-eqb b (r .letter) (none-known rows (known × (b ≡ r .letter → ⊥)) h .1)) (none-of rows (known × (b ≡ r .letter → ⊥)) h)
+      rw (ne-eqb b (r .letter) (none-known b (known × (b ≡ r .letter → ⊥)) (letters rows) h .1)) (none-of rows (known × (b ≡ r .letter → ⊥)) h)
 
-  pub no-row : (known : Type 0) → NoneOf known possibleSpecs → Missing ≡ specOf b
+  -- the last arm of a match knows that b is none of the letters
+  pub no-row : (known : Type 0) → NoneOf b known (letters possibleSpecs) → Missing ≡ specOf b
   no-row = none-of possibleSpecs
 
 -- one turn of a search

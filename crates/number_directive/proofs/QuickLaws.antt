@@ -1,21 +1,20 @@
 -- A number that two tests have shown to be natural and below a bound: what is read back of it, and the digits that are all of its filled text.
-use mathlib.Core.Path.{_≡_, refl, sym, ap, _∙_, subst⁻¹}
+use mathlib.Core.Path.{_≡_, refl, sym, ap, _∙_}
 use mathlib.Core.Bool.{Bool, true}
 use mathlib.Core.List.{List, [], _∷_}
-use Prim.Native.Nat.{ℕ, _<_}
+use Prim.Native.Nat.{ℕ, _^_, _≤_, _<_}
 use native.Mathlib.Omega.{arith}
 use lib.Dec.{T}
 use lib.IntN.{ℤ, pos, negsuc, natAbs}
 use lib.Signed.{mag, ltZ, leZ, nonNeg}
-use mir.Syntax.{w8, w32, w64}
-use mir.Val.{SFits, Fits, ofZ, toZ}
+use mir.Syntax.{Width, w64}
+use mir.Val.{SFits, Fits, bits, ofZ, toZ}
 use mir.ValLaws.{toZ-ofZ}
 use borrow.Author.Tests.{ltb-true}
 use Rattle.rules.specs.Event.{put, write}
 use Rattle.rules.specs.Decimal.{places, Fill, zeros, filled}
-use Rattle.rules.specs.Writing.{yearText}
 use Rattle.rules.proofs.DecimalLaws.{filled-zeros-places}
-use Rattle.numbers.proofs.Signed.{through, cast-fits}
+use Rattle.numbers.proofs.Signed.{cast-fits}
 use Rattle.text.specs.Ran.{Ran}
 use Rattle.text.proofs.RanLaws.{said}
 use Rattle.printing.specs.FillWith.{fillWith}
@@ -45,27 +44,15 @@ asked k {width = width} {n = n} e w s = ap (λ (j : ℕ). filled zeros j (pos n)
 pub as-read : {limit room : ℕ} (fill : Fill) (width : ℕ) (v : ℤ) → SFits w64 v → {l l′ : List ℕ} {n r : ℕ} → Ran limit room (write (put (filled fill width (toZ w64 (ofZ w64 v)))) ∷ []) l n l′ r → Ran limit room (write (put (filled fill width v)) ∷ []) l n l′ r
 as-read fill width v f w = said (ap (filled fill width) (toZ-ofZ w64 v f)) w
 
--- ## Two digits
+-- ## k digits
 
-module _ (v : ℤ) (b : Below v 100) where
-  pub cast-two : T (nonNeg (toZ w64 (ofZ w64 v))) × Fits w8 (natAbs (toZ w64 (ofZ w64 v)))
-  cast-two = cast-fits w8 (b .read) (omega (arith, b .below))
+module _ (k : ℕ) (v : ℤ) (b : Below v (10 ^ k)) where
+  pub cast-few : (w : Width) → 10 ^ k ≤ 2 ^ bits w → T (nonNeg (toZ w64 (ofZ w64 v))) × Fits w (natAbs (toZ w64 (ofZ w64 v)))
+  cast-few w h = cast-fits w (b .read) (record { fits = omega (arith, b .below) })
 
-  pub below-two : natAbs (toZ w64 (ofZ w64 v)) < 100
-  below-two = omega (arith, ap natAbs (b .read), b .below)
+  pub few-below : natAbs (toZ w64 (ofZ w64 v)) < 10 ^ k
+  few-below = omega (arith, ap natAbs (b .read), b .below)
 
-  pub two-text : {z : Bool} {width : ℕ} → z ≡ true → width ≡ 2 → places 2 (natAbs (toZ w64 (ofZ w64 v))) ≡ filled (fillWith z) width v
-  two-text e w =
-      ap (λ (x : ℤ). places 2 (natAbs x)) (b .read) ∙ sym (filled-zeros-places 2 (mag v) (b .below) (omega arith)) ∙ asked 2 e w (b .is)
-
--- ## Four digits
-
-module _ (v : ℤ) (b : Below v 10000) where
-  narrowed : SFits w32 (pos (mag v))
-  narrowed = record { sfits = omega (arith, b .below) }
-
-  pub cast-four : SFits w32 (toZ w64 (ofZ w64 v))
-  cast-four = subst⁻¹ (SFits w32) (b .read) narrowed
-
-  pub four-text : {z : Bool} {width : ℕ} → z ≡ true → width ≡ 4 → yearText (toZ w32 (ofZ w32 (toZ w64 (ofZ w64 v)))) ≡ filled (fillWith z) width v
-  four-text e w = ap yearText (through w32 (b .read) narrowed) ∙ asked 4 e w (b .is)
+  pub few-text : 1 ≤ k → {z : Bool} {width : ℕ} → z ≡ true → width ≡ k → places k (natAbs (toZ w64 (ofZ w64 v))) ≡ filled (fillWith z) width v
+  few-text h e w =
+      ap (λ (x : ℤ). places k (natAbs x)) (b .read) ∙ sym (filled-zeros-places k (mag v) (b .below) h) ∙ asked k e w (b .is)

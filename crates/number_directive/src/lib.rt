@@ -91,7 +91,7 @@ fn put_quick(out: &mut [u8], at: usize, room: usize, v: i64, width: usize, zeros
         return text::put_two(out, at, room, v as u8);
     }
     if zeros && width == 4 && 0 <= v && v < 10000 {
-        return printing::put_year(out, at, room, v as i32);
+        return printing::put_four(out, at, room, v as u32);
     }
     printing::put_decimal(out, at, room, v, width, zeros)
 }

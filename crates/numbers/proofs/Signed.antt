@@ -1,9 +1,9 @@
 -- How a signed number goes through the machine: what is read back of what was written, and the two signs.
-use mathlib.Core.Path.{_≡_, refl, sym, ap, _∙_, subst, subst⁻¹}
+use mathlib.Core.Path.{_≡_, refl, ap, _∙_, subst⁻¹}
 use mathlib.Core.Bool.{true, false}
 use Prim.Native.Nat.{ℕ, zero, suc, _+_, _-_, _^_, _<_, _≤_}
 use native.Mathlib.Omega.{arith}
-use lib.IntN.{ℤ, pos, negsuc, _-ℤ_, _+ℤ_, natAbs, sucℤ, predℤ, +ℤ-one, -ℤ-one}
+use lib.IntN.{ℤ, pos, negsuc, _-ℤ_, natAbs}
 use lib.Signed.{mag, ltZ, nonNeg}
 use lib.Dec.{T}
 use borrow.Author.Tests.{ltb-true, le-ltb}

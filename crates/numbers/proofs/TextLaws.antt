@@ -7,7 +7,7 @@ use lib.IntN.{ℤ, natAbs}
 use lib.ListN.{length, take, drop, replicate, length-append}
 use lib.Seq.{take-at, drop-at, drop-drop}
 use Rattle.rules.specs.Decimal.{digits, digitCount, places, minusSign, decimalText}
-use Rattle.rules.proofs.DecimalLaws.{digits-places, length-text}
+use Rattle.rules.proofs.DecimalLaws.{digits-counted, length-text}
 
 same : {m n : ℕ} (a : ℕ) → m ≡ n → replicate m a ≡ replicate n a
 same a e = ap (λ (m : ℕ). replicate m a) e
@@ -27,7 +27,7 @@ module _ (z : ℤ) (sign : List ℕ) (rest size n count : ℕ) (l : List ℕ) (s
   unfolding decimalText
   text-is =
       let e : rest - n ≡ 20 - count = omega arith in
-      let body : places n size ≡ digits (natAbs z) = ap (λ (k : ℕ). places k size) d ∙ sym (digits-places size) ∙ ap digits m in
+      let body : places n size ≡ digits (natAbs z) = digits-counted size d ∙ ap digits m in
       let back : drop (length sign + n) (sign ++ replicate rest 0) ≡ replicate (20 - count) 0 =
       sym (drop-drop n (length sign) (sign ++ replicate rest 0)) ∙ ap (drop n) (drop-at sign (replicate rest 0) (length sign) refl) ∙ drop-replicate n rest 0 ∙ same 0 e in
       w ∙ ap₂ (λ (a b : List ℕ). a ++ b) (take-at sign (replicate rest 0) (length sign) refl ∙ sym s) (ap₂ (λ (a b : List ℕ). a ++ b) body back)

@@ -1,10 +1,9 @@
 -- From the parts to the offset, and from its writes to the events of the directive.
 use mathlib.Core.Path.{_≡_, refl, sym, ap, _∙_, subst}
-use mathlib.Core.Bool.{Bool, true, false, not, cond, _||_}
+use mathlib.Core.Bool.{Bool, true, not}
 use mathlib.Core.List.{List, _∷_, map}
-use Prim.Native.Nat.{ℕ, _≤_}
+use Prim.Native.Nat.{ℕ}
 use native.Mathlib.Omega.{arith}
-use lib.Dec.{ltb}
 use lib.IntN.{ℤ}
 use Rattle.rules.specs.declared.Offset.{Offset}
 use Rattle.rules.specs.declared.Padding.{Padding}
@@ -17,6 +16,7 @@ use Rattle.rules.specs.Decimal.{Fill}
 use Rattle.rules.specs.Event.{Event, write, check}
 use Rattle.rules.specs.Offset.{Form, hh, hhmm, hh:mm, hh:mm:ss, hoursOf, minutesOf, secondsOf, minus, extra, formOf, lengthOfForm, partsOf, offsetWrites}
 use Rattle.rules.specs.Writing.{widthOr, zerosUnless, fieldsOf, leadOf, bodyOf, specEvents}
+use Rattle.rules.proofs.WidthLaws.{extra-small}
 use Rattle.offset.specs.declared.OffsetParts.{OffsetParts}
 use Rattle.offset.specs.Parts.{partsFor}
 use Rattle.text.specs.Ran.{Ran}
@@ -26,14 +26,6 @@ use Rattle.offset_directive.specs.Parts.{partsText, partsWrites, Small}
 use Rattle.offset_directive.specs.Short.{isSpaces}
 
 -- ## The parts of an offset
-
-at-most-one : (b : Bool) → cond {A = ℕ} b 1 0 ≤ 1
-at-most-one true = omega arith
-at-most-one false = omega arith
-
-extra-small : (negative : Bool) (hours : ℕ) → extra negative hours ≤ 1
-unfolding extra
-extra-small negative hours = at-most-one (negative || ltb hours 10)
 
 parts-text : (form : Form) (z : ℤ) → partsText form (minutesOf z) (secondsOf z) ≡ partsOf form z
 unfolding partsText partsOf

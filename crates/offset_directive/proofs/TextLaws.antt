@@ -1,18 +1,11 @@
 -- The texts of the parts of an offset, from their digits.
-use mathlib.Core.Path.{_≡_, sym, ap, ap₂, _∙_}
+use mathlib.Core.Path.{_≡_, ap, ap₂, _∙_}
 use mathlib.Core.Bool.{Bool}
 use mathlib.Core.List.{List, [], _∷_, _++_}
-use Prim.Native.Nat.{ℕ, _+_, _/_, _%_, _<_}
-use Rattle.rules.specs.Decimal.{digits, digitCount, places, two}
+use Prim.Native.Nat.{ℕ}
+use Rattle.rules.specs.Decimal.{two}
 use Rattle.rules.specs.Offset.{Form, hh:mm, hh:mm:ss, signOf}
-use Rattle.rules.proofs.DecimalLaws.{digits-places, two-digits-below}
 use Rattle.offset_directive.specs.Parts.{partsText}
-
-pub two-is : (n : ℕ) {a b : ℕ} → n < 100 → a ≡ 48 + n / 10 → b ≡ 48 + n % 10 → a ∷ b ∷ [] ≡ two n
-two-is n h p q = ap₂ (λ (a b : ℕ). a ∷ b ∷ []) p q ∙ sym (two-digits-below n h)
-
-pub digits-are : (n : ℕ) {count : ℕ} → count ≡ digitCount n → places count n ≡ digits n
-digits-are n e = ap (λ (k : ℕ). places k n) e ∙ sym (digits-places n)
 
 module _ (m s : ℕ) {a b : ℕ} (minute : a ∷ b ∷ [] ≡ two m) where
   pub colon-minute : 58 ∷ a ∷ b ∷ [] ≡ partsText hh:mm m s

@@ -1,5 +1,5 @@
 -- A filled number as the texts that are written one after the other.
-use mathlib.Core.Path.{_≡_, refl, sym, ap, ap₂, _∙_}
+use mathlib.Core.Path.{_≡_, refl, sym, ap₂, _∙_}
 use mathlib.Core.Bool.{Bool, true, false}
 use mathlib.Core.List.{List, [], _∷_, _++_}
 use Prim.Native.Nat.{ℕ, suc, _+_, _-_, _/_, _%_, _^_, _≤_, _<_}
@@ -7,7 +7,7 @@ use native.Mathlib.Omega.{arith}
 use lib.IntN.{ℤ, pos, negsuc}
 use lib.ListN.{length, replicate}
 use Rattle.rules.specs.Decimal.{digits, digitCount, places, decimalText, zeros, spaces, fillByte, filled}
-use Rattle.rules.proofs.DecimalLaws.{digits-places, filled-zeros-places}
+use Rattle.rules.proofs.DecimalLaws.{digits-counted, filled-zeros-places}
 use Rattle.printing.specs.FillWith.{fillWith}
 
 -- ## The digits and what is in front of them
@@ -23,16 +23,13 @@ module _ (w n : ℕ) where
   places-filled h k = sym (filled-natural true ∙ filled-zeros-places w n h k)
 
 module _ (w n byte count : ℕ) (e : count ≡ digitCount n) where
-  places-digits : places count n ≡ digits n
-  places-digits = ap (λ (k : ℕ). places k n) e ∙ sym (digits-places n)
-
   pub digits-alone : w ≤ count → places count n ≡ replicate (w - digitCount n) byte ++ digits n
   digits-alone h =
       let z : w - digitCount n ≡ 0 = omega arith in
-      rw z places-digits
+      rw z (digits-counted n e)
 
   pub digits-behind : replicate (w - count) byte ++ places count n ≡ replicate (w - digitCount n) byte ++ digits n
-  digits-behind = ap₂ (λ (k : ℕ) (l : List ℕ). replicate (w - k) byte ++ l) e places-digits
+  digits-behind = ap₂ (λ (k : ℕ) (l : List ℕ). replicate (w - k) byte ++ l) e (digits-counted n e)
 
 -- ## With the sign
 

@@ -1,16 +1,16 @@
 -- Writes from what other crates say: a pad below its limit, a text between what stood before it and after it, four stores.
-use mathlib.Core.Path.{_≡_, refl, sym, ap, _∙_}
-use mathlib.Core.List.{List, [], _∷_, _++_, append-assoc}
+use mathlib.Core.Path.{_≡_, refl, sym, _∙_}
+use mathlib.Core.List.{List, [], _∷_}
 use Prim.Native.Nat.{ℕ, _+_, _≤_}
 use native.Mathlib.Omega.{arith}
-use lib.ListN.{length, take, drop, set, replicate}
+use lib.ListN.{length, set, replicate}
 use Rattle.rules.specs.Event.{put, pad, write, bytesOf, textOf, Count, at, no, writeAt, one, tally}
 use Rattle.text.specs.Overlay.{overlay}
 use Rattle.text.specs.Ran.{Ran}
 use Rattle.text.specs.Room.{Room}
 use Rattle.text.proofs.CountLaws.{pad-counts}
-use Rattle.text.proofs.OverlayLaws.{overlay-fits, overlay-two, overlay-append}
-use Rattle.text.proofs.RanLaws.{alike, placed}
+use Rattle.text.proofs.OverlayLaws.{overlay-two, overlay-append}
+use Rattle.text.proofs.RanLaws.{alike}
 
 module _ (a b room : ℕ) (t : List ℕ) where
   limits-alike : (c : Count) → tally a room (write (put t) ∷ []) c ≡ tally b room (write (put t) ∷ []) c
@@ -28,11 +28,6 @@ pub pad-put : {limit room c count : ℕ} {l l′ : List ℕ} {n r : ℕ} → Ran
 unfolding textOf bytesOf
 pad-put {room = room} {c} {count} {n = n} w h g =
     any-limit (alike (λ k. sym (pad-counts 65536 room c count [] n (omega (arith, g .within, g .small)))) refl w)
-
-pub placed-between : {limit room : ℕ} {t l l′ : List ℕ} {n : ℕ} (count : ℕ) → length t ≡ count → l′ ≡ take n l ++ (t ++ drop (n + count) l) → n + count ≤ length l → Room l room → Ran limit room (write (put t) ∷ []) l n l′ (n + count)
-placed-between {t = t} {l} {l′} {n} count e b h g =
-    let f : n + count ≡ n + length t = omega arith in
-    placed (b ∙ ap (λ (k : ℕ). take n l ++ (t ++ drop k l)) f ∙ sym (append-assoc (take n l) t (drop (n + length t) l)) ∙ sym (overlay-fits n t l (omega arith))) f h g
 
 pub overlay-four : (n a b c d : ℕ) (l : List ℕ) → overlay n (a ∷ b ∷ c ∷ d ∷ []) l ≡ set (set (set (set l n a) (n + 1) b) (n + 2) c) (n + 3) d
 overlay-four n a b c d l =

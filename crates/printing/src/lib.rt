@@ -120,7 +120,7 @@ pub fn put_decimal(
 }
 
 // Four digits, with one test of the room.
-fn put_four(out: &mut [u8], at: usize, room: usize, v: u32) -> usize
+pub fn put_four(out: &mut [u8], at: usize, room: usize, v: u32) -> usize
     requires { ⌜ Room (now out) room × (v < 10000) ⌝ }
     ensures { λ r. ⌜ ((limit : ℕ) → Ran limit room (event.write (event.put (places 4 v)) ∷ []) (now (out .entry)) at (now (out .exit)) r) ⌝ }
 {

@@ -1,5 +1,5 @@
 -- The laws of numbers as text: the digits by the two cases of a number below 10 or not, how many there are, the last places, filled texts.
-use mathlib.Core.Path.{_≡_, refl, sym, ap, _∙_, subst}
+use mathlib.Core.Path.{_≡_, refl, sym, ap, ap₂, _∙_, subst}
 use mathlib.Core.List.{List, [], _∷_, _++_, append-assoc, append-nil}
 use Prim.Native.Nat.{ℕ, zero, suc, _+_, _-_, _*_, _/_, _%_, _^_, _<_, _≤_, max}
 use native.Mathlib.Nat.{pow-suc, pow-le-pow-right}
@@ -11,7 +11,7 @@ use lib.ListN.{length, length-append, length-replicate, replicate, replicate-app
 use lib.IntN.{ℤ, pos, negsuc, natAbs}
 use lib.Signed.{mag}
 use borrow.Author.Tests.{lt-ltb, le-ltb}
-use Rattle.rules.specs.Decimal.{digitsWithin, digits, digitCount, places, minusSign, decimalText, Fill, zeros, spaces, filled, floorDiv}
+use Rattle.rules.specs.Decimal.{digitsWithin, digits, digitCount, places, two, minusSign, decimalText, Fill, zeros, spaces, filled, floorDiv}
 
 -- below 10 or not
 by-ten {ℓ} : {X : Type ℓ} (n : ℕ) → (n < 10 → X) → (10 ≤ n → X) → X
@@ -116,8 +116,11 @@ places-larger n h ih =
     digits-large n h ∙ ap (λ (l : List ℕ). l ++ ((48 + n % 10) ∷ [])) ih ∙ sym (ap (λ (k : ℕ). places k n) e)
 
 -- the digits are the last places, as many as there are digits
-pub digits-places : (n : ℕ) → digits n ≡ places (digitCount n) n
+digits-places : (n : ℕ) → digits n ≡ places (digitCount n) n
 digits-places = digits-ind (λ n. digits n ≡ places (digitCount n) n) places-one places-larger
+
+pub digits-counted : (n : ℕ) {count : ℕ} → count ≡ digitCount n → places count n ≡ digits n
+digits-counted n e = ap (λ (k : ℕ). places k n) e ∙ sym (digits-places n)
 
 places-zero : (k : ℕ) → places k 0 ≡ replicate k 48
 unfolding places
@@ -143,31 +146,15 @@ places-padded k n h =
     let e : k ≡ k - digitCount n + digitCount n = omega arith in
     ap (λ (m : ℕ). places m n) e ∙ places-more (k - digitCount n) (digitCount n) n (below-count n) ∙ ap (λ (l : List ℕ). replicate (k - digitCount n) 48 ++ l) (sym (digits-places n))
 
-pub two-digits : (n : ℕ) → places 2 n ≡ (48 + n / 10 % 10) ∷ (48 + n % 10) ∷ []
+pub two-digits : (n : ℕ) → n < 100 → two n ≡ (48 + n / 10) ∷ (48 + n % 10) ∷ []
 unfolding places
-two-digits n = refl
-
-pub two-digits-below : (n : ℕ) → n < 100 → places 2 n ≡ (48 + n / 10) ∷ (48 + n % 10) ∷ []
-two-digits-below n h =
+two-digits n h =
     let e : n / 10 % 10 ≡ n / 10 = omega arith in
-    two-digits n ∙ ap (λ (m : ℕ). (48 + m) ∷ (48 + n % 10) ∷ []) e
+    ap (λ (m : ℕ). (48 + m) ∷ (48 + n % 10) ∷ []) e
 
--- ## Computing
-
-within-pow : (f g n : ℕ) → n < 10 ^ suc f → n < g → digitsWithin (suc f) n ≡ digitsWithin g n
-within-pow f zero n p q = absurd (omega arith)
-within-pow zero (suc g) n p q = let h : n < 10 = p in within-small zero n h ∙ sym (within-small g n h)
-within-pow (suc f) (suc g) n p q =
-    by-ten n (λ h. within-small (suc f) n h ∙ sym (within-small g n h))
-    (λ h. let r : n < 10 ^ suc f * 10 = subst (λ (m : ℕ). n < m) (pow-suc 10 (suc f)) p in
-    within-large (suc f) n h
-    ∙ ap (λ (l : List ℕ). l ++ ((48 + n % 10) ∷ [])) (within-pow f g (n / 10) (omega arith) (omega arith))
-    ∙ sym (within-large g n h))
-
--- the digits by a small fuel
-pub digits-within : (f n : ℕ) → n < 10 ^ suc f → digits n ≡ digitsWithin (suc f) n
-unfolding digits
-digits-within f n h = sym (within-pow f (suc n) n h (omega arith))
+-- from a byte for each digit
+pub two-is : (n : ℕ) {a b : ℕ} → n < 100 → a ≡ 48 + n / 10 → b ≡ 48 + n % 10 → a ∷ b ∷ [] ≡ two n
+two-is n h p q = ap₂ (λ (x y : ℕ). x ∷ y ∷ []) p q ∙ sym (two-digits n h)
 
 -- ## The text with its sign
 

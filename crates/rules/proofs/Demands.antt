@@ -2,7 +2,7 @@
 use mathlib.Core.Path.{_≡_, refl, sym, ap, _∙_}
 use mathlib.Core.List.{List, _++_}
 use mathlib.Core.Logic.{_⊎_, inl, inr}
-use Prim.Native.Nat.{ℕ, _+_, _-_, _≤_, _<_}
+use Prim.Native.Nat.{ℕ, _+_, _-_, _≤_}
 use native.Mathlib.Omega.{arith}
 use lib.Dec.{lit≤}
 use lib.ListN.{length, drop, getD, length-append, length-drop}
@@ -11,7 +11,7 @@ use lib.IntN.{pos}
 use Rattle.rules.specs.declared.Record.{Record}
 use Rattle.rules.specs.declared.IsoWeek.{IsoWeek}
 use Rattle.rules.specs.declared.Number.the-variants.{YearIso8601, YearIso8601Rem100, WeekNumberIso8601}
-use Rattle.rules.specs.Event.{Event, textOf, Count, at, no, tally, Outcome, done, refused, outcomeOf, run, reported, bufferAfter}
+use Rattle.rules.specs.Event.{Event, textOf, Count, at, no, tally, done, refused, outcomeOf, run, reported, bufferAfter}
 use Rattle.rules.specs.Decimal.{floorMod}
 use Rattle.rules.specs.Week.{daysIn, thursdayRule}
 use Rattle.rules.specs.Writing.{valueOf}

@@ -1,6 +1,6 @@
 -- P1 to P12 of 01's "Stamps at the edges", by computing the rules.
 use mathlib.Core.Path.{_≡_, refl}
-use mathlib.Core.List.{List, [], _∷_, map, flatten}
+use mathlib.Core.List.{List, [], map, flatten}
 use Rattle.rules.specs.Edges.{Edge, edges}
 use Rattle.rules.specs.Event.{Outcome, bytesOf, textOf, roomFor, writeAt, one, tally, run}
 use Rattle.rules.specs.Decimal.{digitsWithin, digits, places, decimalText, filled}
@@ -8,7 +8,7 @@ use Rattle.rules.specs.Name.{monthNames, monthName, upper, inCase}
 use Rattle.rules.specs.Week.{weekNumber, isLeap, daysIn, weekHolding, thursdayRule, isoWeek}
 use Rattle.rules.specs.Offset.{extra, formOf, lengthOfForm, partsOf, signAndPad, offsetWrites}
 use Rattle.rules.specs.Record.{zoneOk, okField, allOk}
-use Rattle.rules.specs.Reading.{onFlag, member, modified, possibleSpecs, lookUp, onLetter, onColons, turn, open?}
+use Rattle.rules.specs.Reading.{onFlag, possibleSpecs, lookUp, onLetter, onColons, turn, open?}
 use Rattle.rules.specs.Writing.{valueOf, defaultWidth, fillOf, numberWrites, nameWrites, zoneWrites, combinationLength, combinationText, numberFields, combinationFields, fieldsOf, leadOf, bodyOf, specEvents, eventsOf}
 use Rattle.rules.specs.Format.{step, ending, read, itemEvents, events, formatEvents, formatted}
 

@@ -2,11 +2,11 @@
 use mathlib.Core.Path.{_≡_, refl, ap, _∙_}
 use mathlib.Core.Bool.{Bool, true, false, not, cond}
 use mathlib.Core.List.{List, [], _∷_, _++_, append-assoc, map}
-use Prim.Native.Nat.{ℕ, _+_, _≤_, _<_}
+use Prim.Native.Nat.{ℕ, _+_, _≤_}
 use native.Mathlib.Omega.{arith}
 use lib.Dec.{T, leb, leb→le, nleb→lt}
 use lib.ListN.{length, length-append, length-replicate}
-use Rattle.rules.specs.Event.{Write, put, pad, Event, write, check, bytesOf, sizeOf, textOf, lengthOf, Count, at, no, roomFor, writeAt, one, tally, Outcome, done, refused, outcomeOf, run, Holds}
+use Rattle.rules.specs.Event.{Write, put, pad, Event, write, check, bytesOf, sizeOf, textOf, lengthOf, Count, at, no, roomFor, writeAt, one, tally, Holds}
 
 -- by the two outcomes of a test
 pub splitOn : {A : Type 0} (P : A → Type 0) (b : Bool) {x y : A} → (T b → P x) → (T (not b) → P y) → P (cond b x y)

@@ -1,5 +1,5 @@
 -- The outcome of a whole format: 5 in front, then the events of its items; and the numbers that a refusal can have.
-use mathlib.Core.Path.{_≡_, refl}
+use mathlib.Core.Path.{_≡_}
 use mathlib.Core.Bool.{true, false}
 use mathlib.Core.List.{List, [], _∷_, _++_, map}
 use Prim.Native.Nat.{ℕ, _≤_, _<_}

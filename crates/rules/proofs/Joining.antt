@@ -5,7 +5,7 @@ use mathlib.Core.List.{List, [], _∷_, _++_, append-nil}
 use Prim.Native.Nat.{ℕ}
 use native.Mathlib.Omega.{arith}
 use Rattle.rules.specs.Reading.{open?}
-use Rattle.rules.specs.Format.{Item, literal, echo, directive, cut, State, between, inside, step, ending, read, settled, after, items}
+use Rattle.rules.specs.Format.{Item, literal, echo, directive, cut, State, between, inside, ending, settled, after, items}
 use Rattle.rules.proofs.Resume.{resume, read-split}
 
 -- an item after which reading stands between two items, whatever follows

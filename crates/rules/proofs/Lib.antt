@@ -7,9 +7,11 @@ pub mod FormatLaws
 pub mod Joining
 pub mod OneAnswer
 pub mod OriginalWeek
+pub mod RecordLaws
 pub mod Resume
 pub mod Tables
 pub mod Walk
 pub mod WeekLaws
+pub mod WidthLaws
 pub mod WritingLaws
 pub mod YearLaws

@@ -4,7 +4,7 @@ use mathlib.Core.List.{List, [], _∷_, _++_, append-assoc}
 use Prim.Native.Nat.{ℕ}
 use Rattle.rules.specs.declared.Piece.{Piece}
 use Rattle.rules.specs.Event.{Event}
-use Rattle.rules.specs.Format.{Item, State, step, ending, read, settled, after, itemEvents, events}
+use Rattle.rules.specs.Format.{Item, State, step, ending, read, settled, after, events}
 
 pub resume : (state : State) (a b : List ℕ) → read state (a ++ b) ≡ settled state a ++ read (after state a) b
 unfolding read settled after

@@ -165,7 +165,7 @@ module _ (P : IsoWeek → Type 0) (y : ℤ) (w d : ℕ) where
   day-cases f g h = splitOn P (ltb (daysIn y) d) (λ t. splitOn P (eqb w 1) (λ u. g) (λ u. h)) (λ t. f (nltb→le (daysIn y) d t))
 
 abbrev Near : ℤ → IsoWeek → Type 0
-Near y r = (1 ≤ r .week) × (r .week ≤ 53) × (mag (r .year) ≤ mag y + 1)
+Near y r = (r .week ≤ 53) × (mag (r .year) ≤ mag y + 1)
 
 near : (y : ℤ) (w d : ℕ) → Near y (isoWeek y w d)
 near y w d =
@@ -177,14 +177,11 @@ near y w d =
     (λ n l. omega (arith, days-to (y +ℤ pos 1), mag-inc y))
     (λ l. absurd (omega (arith, days-from (y +ℤ pos 1)))))
 
-pub iso-week-from : (y : ℤ) (w d : ℕ) → 1 ≤ isoWeek y w d .week
-iso-week-from y w d = near y w d .0
-
 pub iso-week-to : (y : ℤ) (w d : ℕ) → isoWeek y w d .week ≤ 53
-iso-week-to y w d = near y w d .1
+iso-week-to y w d = near y w d .0
 
 pub iso-year-near : (y : ℤ) (w d : ℕ) → mag (isoWeek y w d .year) ≤ mag y + 1
-iso-year-near y w d = near y w d .2
+iso-year-near y w d = near y w d .1
 
 -- ## The original
 

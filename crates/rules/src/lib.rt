@@ -2,6 +2,7 @@
 ghost use mathlib.Core.Path.{_≡_};
 ghost use mathlib.Core.Bool.{_||_};
 ghost use Rattle.rules.specs.Reading.{noFlags, withFlag, hasFlag};
+ghost use Rattle.rules.specs.Refusal.{numberOf};
 
 // A time, flat: the fields are independent. The zone name is a byte slice beside it.
 pub struct Record {
@@ -214,6 +215,20 @@ pub enum Refusal {
     WriteZero,
     InputTooLong,
     NoBuffer,
+}
+
+// A refusal's number in the table.
+pub fn number_of(refusal: Refusal) -> u32
+    ensures { λ r. ⌜ r ≡ numberOf refusal ⌝ }
+{
+    match refusal {
+        Refusal::InvalidTime => 1,
+        Refusal::InvalidFormatString => 2,
+        Refusal::FormattedStringTooLarge => 3,
+        Refusal::WriteZero => 4,
+        Refusal::InputTooLong => 5,
+        Refusal::NoBuffer => 6,
+    }
 }
 
 pub enum Answer {

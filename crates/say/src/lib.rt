@@ -1,6 +1,6 @@
 // Added to the original: what the programs say, and an answer by the refusal table of paper 01.
 ghost use mathlib.Core.Path.{_≡_};
-ghost use Rattle.rules.specs.Refusal.{numberOf, numbered};
+ghost use Rattle.rules.specs.Refusal.{numbered};
 use libc::STDOUT_FILENO;
 use rules::Answer;
 use rules::Refusal;
@@ -11,19 +11,6 @@ pub fn text(text: &[u8]) {
 
 pub fn number(number: u64) {
     io::print_decimal(STDOUT_FILENO, number);
-}
-
-pub fn number_of(refusal: Refusal) -> u64
-    ensures { λ r. ⌜ r ≡ numberOf refusal ⌝ }
-{
-    match refusal {
-        Refusal::InvalidTime => 1,
-        Refusal::InvalidFormatString => 2,
-        Refusal::FormattedStringTooLarge => 3,
-        Refusal::WriteZero => 4,
-        Refusal::InputTooLong => 5,
-        Refusal::NoBuffer => 6,
-    }
 }
 
 fn name(refusal: Refusal) {
@@ -40,7 +27,7 @@ fn name(refusal: Refusal) {
 // A refusal's number and name.
 pub fn refusal(refusal: Refusal) {
     text(b"refusal ");
-    number(number_of(refusal));
+    number(rules::number_of(refusal) as u64);
     text(b", ");
     name(refusal);
 }
@@ -50,7 +37,7 @@ pub fn answer_number(answer: Answer) -> u64
 {
     match answer {
         Answer::Done(_) => 0,
-        Answer::Refused(refusal) => number_of(refusal),
+        Answer::Refused(refusal) => rules::number_of(refusal) as u64,
     }
 }
 

@@ -1,24 +1,25 @@
 -- The most that each number of a record in range takes, by bounds of what hangs on the year, to_int and the offset.
-use mathlib.Core.Bool.{Bool, _||_}
+use mathlib.Core.Bool.{Bool}
 use mathlib.Core.List.{List}
-use Prim.Native.Nat.{ℕ, suc, _-_, _%_, _^_, _≤_, _<_}
+use Prim.Native.Nat.{ℕ, suc, _^_, _≤_, _<_}
 use native.Mathlib.Omega.{arith}
-use lib.Dec.{ltb, eqb, lit≤}
+use lib.Dec.{eqb, lit<}
 use lib.ListN.{length}
-use lib.IntN.{ℤ, pos, negsuc}
+use lib.IntN.{pos}
 use Rattle.rules.specs.declared.Record.{Record}
 use Rattle.rules.specs.declared.Number.{Number}
 use Rattle.rules.specs.declared.Number.the-variants.{Year4Digits, YearDiv100, YearRem100, Month, MonthDayZero, MonthDaySpace, YearDay, Hour24hZero, Hour24hSpace, Hour12hZero, Hour12hSpace, Minute, Second, WeekDayFrom1, WeekDayFrom0, YearIso8601, YearIso8601Rem100, WeekNumberIso8601, WeekNumberFromSunday, WeekNumberFromMonday, SecondsSinceEpoch}
 use Rattle.rules.specs.declared.Offset.the-variants.{TimeZoneOffsetColonMinimal}
-use Rattle.rules.specs.Record.{hour, InRange}
-use Rattle.rules.specs.Decimal.{decimalText, floorMod}
+use Rattle.rules.specs.Record.{day, hour, minute, second, weekday, dayOfYear, InRange}
+use Rattle.rules.specs.Decimal.{decimalText}
 use Rattle.rules.specs.Week.{isoWeek}
-use Rattle.rules.specs.Offset.{extra}
-use Rattle.rules.specs.Writing.{hour12, orIfZero, valueOf}
+use Rattle.rules.specs.Writing.{orIfZero, valueOf}
 use Rattle.rules.proofs.EventLaws.{splitOn}
 use Rattle.rules.proofs.DecimalLaws.{count-le, length-text-pos}
+use Rattle.rules.proofs.FloorLaws.{mod-below}
+use Rattle.rules.proofs.RecordLaws.{in-range}
 use Rattle.rules.proofs.WeekLaws.{week-number-to, iso-week-to}
-use Rattle.sizing.proofs.Checks.{day-to, hour-to, minute-to, second-to, weekday-to, year-day-to}
+use Rattle.rules.proofs.WidthLaws.{hour12-below}
 use Rattle.sizing.proofs.Measure.{textLength, widthIn, hoursLength, formLength}
 
 -- the longest texts of year, century, ISO year and to_int, the default width of a year, the hours of the offset, and the form of `:::z`
@@ -84,41 +85,30 @@ most b m WeekNumberFromSunday = 2
 most b m WeekNumberFromMonday = 2
 most b m SecondsSinceEpoch = b .to-int
 
-floorMod-small : (z : ℤ) → floorMod z 100 < 100
-floorMod-small (pos n) = omega arith
-floorMod-small (negsuc n) = omega arith
-
-hour12-small : (h : ℕ) → hour12 h < 100
-hour12-small h = splitOn (λ n. n < 100) (eqb (h % 12) 0) (λ t. omega arith) (λ t. omega arith)
-
 from1-small : (d : ℕ) → d ≤ 6 → orIfZero 7 d < 10
 from1-small d l = splitOn (λ n. n < 10) (eqb d 0) (λ t. omega arith) (λ t. omega arith)
-
-pub extra-small : (negative : Bool) (hours : ℕ) → extra negative hours ≤ 1
-unfolding extra
-extra-small negative hours = splitOn (λ n. n ≤ 1) (negative || ltb hours 10) (λ t. lit≤ tt) (λ t. lit≤ tt)
 
 module _ (r : Record) (zone : List ℕ) (h : InRange r zone) where
   pub at-most : (b : Bounds) (m : ℕ) → Within b r → textLength Month r ≤ m → (n : Number) → textLength n r ≤ most b m n
   unfolding valueOf most
   at-most b m w k Year4Digits = w .year
   at-most b m w k YearDiv100 = w .century
-  at-most b m w k YearRem100 = few 1 _ (floorMod-small (r .year))
+  at-most b m w k YearRem100 = few 1 _ (mod-below (r .year) 100 (lit< tt))
   at-most b m w k Month = k
-  at-most b m w k MonthDayZero = few 1 _ (omega (arith, day-to r zone h))
-  at-most b m w k MonthDaySpace = few 1 _ (omega (arith, day-to r zone h))
-  at-most b m w k YearDay = few 2 _ (omega (arith, year-day-to r zone h))
-  at-most b m w k Hour24hZero = few 1 _ (omega (arith, hour-to r zone h))
-  at-most b m w k Hour24hSpace = few 1 _ (omega (arith, hour-to r zone h))
-  at-most b m w k Hour12hZero = few 1 _ (hour12-small (r .hour))
-  at-most b m w k Hour12hSpace = few 1 _ (hour12-small (r .hour))
-  at-most b m w k Minute = few 1 _ (omega (arith, minute-to r zone h))
-  at-most b m w k Second = few 1 _ (omega (arith, second-to r zone h))
-  at-most b m w k WeekDayFrom1 = few 0 _ (from1-small (r .«day_of_week») (weekday-to r zone h))
-  at-most b m w k WeekDayFrom0 = few 0 _ (omega (arith, weekday-to r zone h))
+  at-most b m w k MonthDayZero = few 1 _ (omega (arith, in-range r zone h day))
+  at-most b m w k MonthDaySpace = few 1 _ (omega (arith, in-range r zone h day))
+  at-most b m w k YearDay = few 2 _ (omega (arith, in-range r zone h dayOfYear))
+  at-most b m w k Hour24hZero = few 1 _ (omega (arith, in-range r zone h hour))
+  at-most b m w k Hour24hSpace = few 1 _ (omega (arith, in-range r zone h hour))
+  at-most b m w k Hour12hZero = few 1 _ (hour12-below (r .hour))
+  at-most b m w k Hour12hSpace = few 1 _ (hour12-below (r .hour))
+  at-most b m w k Minute = few 1 _ (omega (arith, in-range r zone h minute))
+  at-most b m w k Second = few 1 _ (omega (arith, in-range r zone h second))
+  at-most b m w k WeekDayFrom1 = few 0 _ (from1-small (r .«day_of_week») (in-range r zone h weekday))
+  at-most b m w k WeekDayFrom0 = few 0 _ (omega (arith, in-range r zone h weekday))
   at-most b m w k YearIso8601 = w .iso
-  at-most b m w k YearIso8601Rem100 = few 1 _ (floorMod-small (isoWeek (r .year) (r .«day_of_week») (r .«day_of_year») .year))
+  at-most b m w k YearIso8601Rem100 = few 1 _ (mod-below (isoWeek (r .year) (r .«day_of_week») (r .«day_of_year») .year) 100 (lit< tt))
   at-most b m w k WeekNumberIso8601 = few 1 _ (omega (arith, iso-week-to (r .year) (r .«day_of_week») (r .«day_of_year»)))
-  at-most b m w k WeekNumberFromSunday = few 1 _ (omega (arith, week-number-to 0 (r .«day_of_week») (r .«day_of_year») (year-day-to r zone h)))
-  at-most b m w k WeekNumberFromMonday = few 1 _ (omega (arith, week-number-to 1 (r .«day_of_week») (r .«day_of_year») (year-day-to r zone h)))
+  at-most b m w k WeekNumberFromSunday = few 1 _ (omega (arith, week-number-to 0 (r .«day_of_week») (r .«day_of_year») (in-range r zone h dayOfYear .1)))
+  at-most b m w k WeekNumberFromMonday = few 1 _ (omega (arith, week-number-to 1 (r .«day_of_week») (r .«day_of_year») (in-range r zone h dayOfYear .1)))
   at-most b m w k SecondsSinceEpoch = w .to-int

@@ -5,7 +5,7 @@ use mathlib.Core.List.{List, _∷_}
 use Prim.Native.Nat.{ℕ, zero, suc, _≤_, _<_, min, max}
 use native.Mathlib.Omega.{arith}
 use native.Mathlib.Decide.{decLt}
-use borrow.Author.Tests.{le-leb, lt-ltb, le-ltb}
+use borrow.Author.Tests.{le-leb, lt-ltb, le-ltb, not-false}
 use lib.Dec.{ltb, lit≤, nltb→le}
 use lib.ListN.{length, take, replicate}
 use Rattle.rules.specs.declared.Record.{Record}
@@ -75,11 +75,7 @@ module _ (format : List ℕ) (f : length format ≤ 4096) where
   not-whole v e = let k = rw (le-leb (length format) 4096 f) at v in rw (← k) e
 
   pub whole-of : {t : Bool} → t ≡ valid format → not t ≡ false → whole (items format) ≡ true
-  whole-of v e = unless (whole (items format)) (not-whole v e)
-    where
-      unless : (b : Bool) → not b ≡ false → b ≡ true
-      unless true k = refl
-      unless false k = sym k
+  whole-of v e = not-false (whole (items format)) (not-whole v e)
 
 module _ (format : List ℕ) (longest : ℕ) where
   abbrev longest-text : ℕ

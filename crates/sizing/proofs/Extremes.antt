@@ -15,7 +15,7 @@ use Rattle.rules.specs.Format.{items, whole, limitOf}
 use Rattle.rules.specs.Size.{Stamps, SizeIs, NoneServes, Kept}
 use Rattle.sizing.specs.Witness.{Stamp, lengthAt, greater}
 use Rattle.sizing.proofs.Fitting.{run-done}
-use Rattle.sizing.proofs.Beside.{Beside, beside-self, events-beside, run-beside}
+use Rattle.sizing.proofs.Beside.{Beside, events-beside, run-beside}
 use Rattle.sizing.proofs.Measure.{extentOf}
 use Rattle.sizing.proofs.Growth.{Below, text-grows}
 use Rattle.sizing.proofs.Members.{Sets, every-runs, within-limit, member-holds, member-fits, member-short}
@@ -30,10 +30,6 @@ pub record Twin (Some : Stamps) (r : Record) (zone : List ℕ) : Type 0 where
   pub twin : Stamp
   pub twin-in : Some (twin .time) (twin .zone)
   pub beside : (p : Piece) → Beside (λ number. number ≡ 1) (eventsOf r zone p) (eventsOf (twin .time) (twin .zone) p)
-
--- where Every is Some
-pub own-twin : {Some : Stamps} (r : Record) (zone : List ℕ) → Some r zone → Twin Some r zone
-own-twin r zone h = record { twin = record { time = r; zone = zone }; twin-in = h; beside = λ p. beside-self (eventsOf r zone p) }
 
 module _ {longest : ℕ} {Every Some : Stamps} (sets : Sets longest Every Some) (format : List ℕ) (kept : Kept format longest) (valid : whole (items format) ≡ true) {a b : Stamp} (x : Extremes Some a b) where
   pub greatest : (s : Stamp) → Some (s .time) (s .zone) → lengthAt s format ≤ greater a b format

@@ -21,7 +21,8 @@ use Rattle.rules.specs.Writing.{widthOr, valueOf, defaultWidth, numberWrites, p
 use Rattle.rules.specs.Format.{Item, literal, echo, directive, cut, itemEvents, events}
 use Rattle.rules.proofs.EventLaws.{length-join}
 use Rattle.rules.proofs.DecimalLaws.{length-places, length-filled}
-use Rattle.sizing.proofs.Combinations.{length-case, combination-length}
+use Rattle.rules.proofs.WidthLaws.{length-cased}
+use Rattle.sizing.proofs.Combinations.{combination-length}
 use Rattle.sizing.proofs.Measure.{extentOf, numberLength, nameLength, zoneLength, combinationSize, specLength, itemLength, totalLength}
 
 abbrev writesLength : List Write → ℕ
@@ -52,7 +53,7 @@ length-fraction width nanos = omega (arith, length-places (min width 9) (nanos /
 length-zone : (p : Piece) (zone : List ℕ) → writesLength (zoneWrites p zone) ≡ zoneLength (p .flags .left) (widthOr (p .width) 0) (length zone)
 unfolding zoneWrites zoneLength
 length-zone p [] = unfold lengthOf in refl
-length-zone p (b ∷ zone) = length-name p (inCase (zoneCase (p .flags)) (b ∷ zone)) ∙ rw (length-case (zoneCase (p .flags)) (b ∷ zone))
+length-zone p (b ∷ zone) = length-name p (inCase (zoneCase (p .flags)) (b ∷ zone)) ∙ rw (length-cased (zoneCase (p .flags)) (b ∷ zone))
 
 length-parts : (form : Form) (z : ℤ) → length (partsOf form z) + 3 ≡ lengthOfForm form
 unfolding partsOf lengthOfForm
@@ -94,7 +95,7 @@ module _ (r : Record) (zone : List ℕ) (h : InRange r zone) where
   length-spec : (s : Spec) (p : Piece) → writesLength (leadOf s p (r .year)) + writesLength (bodyOf s p r zone) ≡ specLength s p (extentOf r zone)
   unfolding leadOf bodyOf specLength lengthOf
   length-spec (number n) p = none-first (length-number (p .flags .left) _ _ (valueOf n r))
-  length-spec (name n) p = none-first (length-name p (inCase (caseOf n (p .flags)) (nameOf n r)) ∙ rw (length-case (caseOf n (p .flags)) (nameOf n r)))
+  length-spec (name n) p = none-first (length-name p (inCase (caseOf n (p .flags)) (nameOf n r)) ∙ rw (length-cased (caseOf n (p .flags)) (nameOf n r)))
   length-spec (fraction f) p = none-first (length-fraction (widthOr (p .width) (fractionDigits f)) (r .nanoseconds))
   length-spec (offset o) p = none-first (length-offset _ _ _ _ (r .«utc_offset»))
   length-spec TimeZoneName p = none-first (length-zone p zone)

@@ -6,8 +6,8 @@ use Prim.Native.Nat.{ℕ, _≤_, _<_}
 use native.Mathlib.Omega.{arith}
 use lib.ListN.{length}
 use Rattle.rules.specs.declared.Record.{Record}
-use Rattle.rules.specs.Record.{InRange, longestFormat, longestZone, longestBuffer}
-use Rattle.rules.specs.Event.{textOf, lengthOf, done, refused, run, Holds}
+use Rattle.rules.specs.Record.{InRange, longestBuffer}
+use Rattle.rules.specs.Event.{lengthOf, done, refused, run, Holds}
 use Rattle.rules.specs.Writing.{eventsOf}
 use Rattle.rules.specs.Format.{items, read, ending, events, whole, limitOf, formatted}
 use Rattle.rules.specs.Size.{Stamps, textFor, Kept}

@@ -21,9 +21,9 @@ use Rattle.rules.specs.Record.{month, day, hour, minute, second, nanoseconds, w
 use Rattle.rules.specs.Event.{Event, write, check}
 use Rattle.rules.specs.Name.{nameOf}
 use Rattle.rules.specs.Writing.{valueOf, combinationText, numberFields, nameFields, combinationFields, fieldsOf, leadOf, bodyOf, specEvents, eventsOf}
+use Rattle.rules.proofs.RecordLaws.{Passed, passed, all-ok}
 use Rattle.sizing.specs.Witness.{Stamp}
 use Rattle.sizing.proofs.Beside.{Beside, fails, beside-self, beside-join}
-use Rattle.sizing.proofs.Checks.{Passed, passed, all-ok}
 
 -- each field as it is, or else one in range
 unfoldable pub mend : Record → List ℕ → Stamp

@@ -8,8 +8,8 @@ use lib.Dec.{leb}
 use lib.ListN.{length, drop, getD}
 use borrow.Author.Tests.{leb-true}
 use Rattle.rules.specs.Name.{dayNames, monthNames, dayName, monthName}
+use Rattle.rules.proofs.RecordLaws.{both}
 use Rattle.sizing.specs.Witness.{september, december}
-use Rattle.sizing.proofs.Checks.{and-left, and-right}
 
 abbrev every : (List ℕ → Bool) → List (List ℕ) → Bool
 every test [] = true
@@ -18,8 +18,8 @@ every test (name ∷ names) = test name && every test names
 -- a test that all names from place k on pass
 named : (test : List ℕ → Bool) (names : List (List ℕ)) (k i : ℕ) → every test (drop k names) ≡ true → k ≤ i → i < length names → test (getD names i []) ≡ true
 named test [] k i t h l = absurd (omega arith)
-named test (name ∷ names) zero zero t h l = and-left (test name) (every test names) t
-named test (name ∷ names) zero (suc i) t h l = named test names zero i (and-right (test name) (every test names) t) (omega arith) (omega arith)
+named test (name ∷ names) zero zero t h l = both (test name) (every test names) t .0
+named test (name ∷ names) zero (suc i) t h l = named test names zero i (both (test name) (every test names) t .1) (omega arith) (omega arith)
 named test (name ∷ names) (suc k) zero t h l = absurd (omega arith)
 named test (name ∷ names) (suc k) (suc i) t h l = named test names k i t (omega arith) (omega arith)
 

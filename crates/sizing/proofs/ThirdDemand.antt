@@ -17,16 +17,17 @@ use Rattle.rules.specs.Refusal.{Report}
 use Rattle.rules.specs.Decimal.{digits, digitsWithin, decimalText, floorDiv}
 use Rattle.rules.specs.Week.{isLeap, daysIn, weekHolding, thursdayRule, isoWeek}
 use Rattle.rules.specs.Offset.{hoursOf, minus, extra, Form, hh, hhmm, hh:mm, hh:mm:ss, formOf, lengthOfForm}
-use Rattle.rules.specs.Writing.{yearWidth, valueOf, defaultWidth}
+use Rattle.rules.specs.Writing.{valueOf, defaultWidth}
 use Rattle.rules.specs.Format.{items, whole}
 use Rattle.rules.specs.Size.{NoneServes, Kept, Sizing, Typed, AnyStamp, GoodStamp}
 use Rattle.rules.proofs.DecimalLaws.{count-le, length-text-pos, length-text-neg}
 use Rattle.rules.proofs.WeekLaws.{iso-year-near}
+use Rattle.rules.proofs.WidthLaws.{year-narrow, extra-small}
 use Rattle.sizing.specs.Witness.{september, december, witness, longestIn, sizeOf}
 use Rattle.sizing.proofs.Members.{Sets}
 use Rattle.sizing.proofs.Extremes.{Extremes, Twin}
 use Rattle.sizing.proofs.Mending.{mend, mend-in-range, mend-zone, mend-beside}
-use Rattle.sizing.proofs.Bounds.{Bounds, Within, Meets, extra-small}
+use Rattle.sizing.proofs.Bounds.{Bounds, Within, Meets}
 use Rattle.sizing.proofs.Witnesses.{witness-in-range, witness-zone, below-either}
 use Rattle.sizing.proofs.Once.{once, five-if, two-if, six-if}
 use Rattle.sizing.proofs.BySets.{sizing-by}
@@ -43,10 +44,6 @@ mag-century : (z : ℤ) → mag (floorDiv z 100) ≡ mag z / 100
 mag-century (pos n) = refl
 mag-century (negsuc n) = refl
 
-sign-small : (z : ℤ) → yearWidth z ≤ 5
-sign-small (pos n) = lit≤ tt
-sign-small (negsuc n) = lit≤ tt
-
 form-small : (f : Form) → lengthOfForm f ≤ 9
 unfolding lengthOfForm
 form-small hh = lit≤ tt
@@ -62,8 +59,8 @@ typed-within r t =
       year = signed-few 9 (r .year) (omega arith);
       century = signed-few 7 (floorDiv (r .year) 100) (omega (arith, mag-century (r .year)));
       iso = signed-few 9 (isoWeek (r .year) (r .«day_of_week») (r .«day_of_year») .year) (omega arith);
-      sign = sign-small (r .year);
-      iso-sign = sign-small (isoWeek (r .year) (r .«day_of_week») (r .«day_of_year») .year);
+      sign = year-narrow (r .year);
+      iso-sign = year-narrow (isoWeek (r .year) (r .«day_of_week») (r .«day_of_year») .year);
       to-int = signed-few 18 (r .«to_int») (omega arith);
       hours = λ left.
           omega

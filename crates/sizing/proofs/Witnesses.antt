@@ -23,8 +23,8 @@ use Rattle.rules.specs.Name.{dayNames, dayName, monthName, nameOf}
 use Rattle.rules.specs.Week.{weekNumber}
 use Rattle.rules.specs.Offset.{formOf}
 use Rattle.rules.specs.Writing.{valueOf, defaultWidth}
+use Rattle.rules.proofs.RecordLaws.{in-range}
 use Rattle.sizing.specs.Witness.{september, december, witness}
-use Rattle.sizing.proofs.Checks.{month-from, month-to, weekday-to}
 use Rattle.sizing.proofs.NameTables.{month-letters, month-longest, late-month-longest, day-longest}
 use Rattle.sizing.proofs.Combinations.{length-meridian}
 use Rattle.sizing.proofs.Mending.{letters-ok}
@@ -135,7 +135,7 @@ module _ (b : Bounds) (y t o : ℤ) (longest : ℕ) (r : Record) (zone : List �
       record {
         plain = λ x. le-trans (at-most r zone h b (length (decimalText (pos m))) i (unfold valueOf in d) x) (met y t o m longest b w x);
         width = width-below r (witness y t o m longest .time) (le-trans (i .sign) (w .sign)) (le-trans (i .iso-sign) (w .iso-sign));
-        names = names-below y t o m longest r k n (weekday-to r zone h);
+        names = names-below y t o m longest r k n (in-range r zone h weekday);
         hours = λ left. le-trans (i .hours left) (w .hours left);
         form = form-below r (witness y t o m longest .time) (le-trans (i .form) (w .form));
         zone = rw (witness-zone y t o m longest) l;
@@ -146,8 +146,8 @@ module _ (b : Bounds) (y t o : ℤ) (longest : ℕ) (r : Record) (zone : List �
       Below (extentOf r zone) (extentOf (witness y t o september longest .time) (witness y t o september longest .zone))
       ⊎ Below (extentOf r zone) (extentOf (witness y t o december longest .time) (witness y t o december longest .zone))
   below-either w =
-      let f = month-from r zone h in
-      let g = month-to r zone h in
+      let f = in-range r zone h month .0 in
+      let g = in-range r zone h month .1 in
       elim (decLt (r .month) 10) [
         | yes k ↦ inl (below september (w september) (month-letters september (lit≤ tt) (lit≤ tt)) (september-digits (r .month) k) (month-longest (r .month) f g))
         | no k ↦

@@ -6,7 +6,7 @@ use native.Mathlib.Nat.{add-zero, suc-add, add-suc, zero-add}
 use native.Mathlib.Numerals.{add-one}
 use native.Mathlib.Omega.{arith}
 use lib.ListN.{length, getD, set, take, drop, replicate, length-set, length-replicate, getD-replicate}
-use lib.Seq.{set-out, sets, sets-eq, take-suc, take-all, length-take-le}
+use lib.Seq.{sets, sets-eq, take-suc, take-all, length-take-le}
 use Rattle.text.specs.Overlay.{overlay}
 
 pub overlay-nil : (at : ℕ) (l : List ℕ) → overlay at [] l ≡ l
@@ -32,12 +32,6 @@ overlay-append at [] b l = ap (λ (k : ℕ). overlay k b l) (sym (add-zero at))
 overlay-append at (x ∷ a) b l =
     overlay-append (suc at) a b (set l at x)
     ∙ ap (λ (k : ℕ). overlay k b (overlay (suc at) a (set l at x))) (suc-add at (length a) ∙ sym (add-suc at (length a)))
-
--- past the end nothing is laid
-pub overlay-out : (at : ℕ) (t l : List ℕ) → length l ≤ at → overlay at t l ≡ l
-unfolding overlay
-overlay-out at [] l h = refl
-overlay-out at (b ∷ t) l h = ap (λ (k : List ℕ). overlay (suc at) t k) (set-out l at b h) ∙ overlay-out (suc at) t l (omega arith)
 
 overlay-sets : (at : ℕ) (t l : List ℕ) → overlay at t l ≡ sets l at t
 unfolding overlay

@@ -22,6 +22,9 @@ text-one : (t : List ℕ) → textOf (write (put t) ∷ []) ≡ t
 unfolding textOf bytesOf
 text-one t = append-nil t
 
+pub room-short : {l : List ℕ} {room : ℕ} → Room l room → length l ≤ 65536
+room-short r = omega (arith, r .within, r .small)
+
 module _ {limit room : ℕ} where
   -- ## One after the other
 

@@ -1,20 +1,21 @@
 -- What an answer is from its parts, and what a number's fields being in range says.
 use mathlib.Core.Path.{_≡_, refl, sym, ap, _∙_, subst, subst⁻¹}
-use mathlib.Core.Bool.{Bool, true, false, _&&_}
+use mathlib.Core.Bool.{Bool, true, false}
 use mathlib.Core.List.{List, [], _∷_}
 use Prim.Native.Nat.{ℕ, _≤_}
 use native.Mathlib.Omega.{arith}
-use lib.IntN.{ℤ, pos, negsuc}
+use lib.IntN.{ℤ}
 use mir.Syntax.{w32, w64}
 use mir.Val.{SFits, toZ, ofZ}
 use mir.ValLaws.{toZ-ofZ}
-use borrow.Author.Tests.{eq-eqb, ne-eqb, leb-true}
+use borrow.Author.Tests.{eq-eqb, ne-eqb}
 use Rattle.rules.specs.declared.Number.{Number}
 use Rattle.rules.specs.declared.Padding.{Padding}
 use Rattle.rules.specs.declared.Record.{Record}
 use Rattle.rules.specs.Record.{Field, okField, allOk, weekday, dayOfYear}
 use Rattle.rules.specs.Decimal.{Fill}
-use Rattle.rules.specs.Writing.{orIfZero, yearWidth, valueOf, defaultWidth, fillOf, numberFields}
+use Rattle.rules.specs.Writing.{orIfZero, valueOf, defaultWidth, fillOf, numberFields}
+use Rattle.rules.proofs.RecordLaws.{ranges-of}
 use Rattle.fields.proofs.Laws.{alone}
 use Rattle.numbers.proofs.Signed.{widened-fits}
 use Rattle.values.specs.declared.Value.{Value}
@@ -31,16 +32,8 @@ not-zero other n h = rw (ne-eqb n 0 h)
 
 -- ## Fields in range
 
-both : (a b : Bool) → (a && b) ≡ true → (a ≡ true) × (b ≡ true)
-both true b h = (refl, h)
-both false b h = (h, cc)
-
 pub week-range : (r : Record) → InWeek r → (r .«day_of_week» ≤ 6) × (1 ≤ r .«day_of_year») × (r .«day_of_year» ≤ 366)
-unfolding allOk okField
-week-range r h =
-    let w = both _ _ (h []) in
-    let d = both _ _ (both _ _ (w .1) .0) in
-    (leb-true _ _ (w .0), leb-true _ _ (d .0), leb-true _ _ (d .1))
+week-range r h = let e = ranges-of _ r [] (h []) in (e .0, e .1 .0 .0, e .1 .0 .1)
 
 module _ (r : Record) {ok : Bool} (checked : (zone : List ℕ) → ok ≡ allOk (weekday ∷ dayOfYear ∷ []) r zone) where
   pub in-week : ok ≡ true → InWeek r
@@ -50,10 +43,6 @@ module _ (r : Record) {ok : Bool} (checked : (zone : List ℕ) → ok ≡ allOk 
   not-in-week h w = let z : _≡_ {A = ℕ} 0 1 = cc (checked [], w []) in absurd (omega arith)
 
 -- ## An answer
-
-pub year-narrow : (y : ℤ) → yearWidth y ≤ 5
-year-narrow (pos n) = omega arith
-year-narrow (negsuc n) = omega arith
 
 -- what the cast of an i32 to an i64 asks
 pub widens : (z : ℤ) → SFits w32 z → SFits w64 (toZ w32 (ofZ w32 z))

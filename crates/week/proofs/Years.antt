@@ -10,7 +10,7 @@ use borrow.Author.Tests.{eq-eqb, ne-eqb}
 use lib.Dec.{eqb}
 use lib.IntN.{ℤ, pos, negsuc, negℤ}
 use lib.Signed.{mag, quotZ, remZ}
-use mir.Syntax.{Width, w64}
+use mir.Syntax.{w64}
 use mir.Val.{SFits, toZ, ofZ}
 use mir.ValLaws.{toZ-ofZ}
 use Rattle.rules.specs.Decimal.{floorMod}

@@ -4,7 +4,7 @@ use Prim.Native.Nat.{ℕ, _+_}
 use native.Mathlib.Omega.{arith}
 use borrow.Author.Needs.{needs}
 use Rattle.rules.specs.Writing.{yearWidth, combinationLength}
-use Rattle.values.proofs.Laws.{year-narrow}
+use Rattle.rules.proofs.WidthLaws.{year-narrow}
 use Rattle.combination_directive.proofs.LengthLaws.{known-length, year-long, year-short}
 use Rattle.combination_directive.proofs.combination_length.Statement.{statement}
 use Rattle.combination_directive.proofs.combination_length.Tie as tie

@@ -9,11 +9,12 @@ use Rattle.rules.specs.Decimal.{two, floorMod}
 use Rattle.rules.specs.Record.{month, day}
 use Rattle.rules.specs.Writing.{combinationFields}
 use Rattle.rules.proofs.FloorLaws.{mod-below}
+use Rattle.rules.proofs.DecimalLaws.{two-is}
+use Rattle.rules.proofs.RecordLaws.{Each}
 use Rattle.numbers.proofs.Signed.{widened}
 use Rattle.values.proofs.Laws.{widens}
-use Rattle.combination_directive.proofs.RangeLaws.{Each, in-range}
-use Rattle.combination_directive.proofs.TextLaws.{pair, date-text}
-use Rattle.combination_directive.proofs.CombinedLaws.{failed, written}
+use Rattle.combination_directive.proofs.TextLaws.{date-text}
+use Rattle.combination_directive.proofs.CombinedLaws.{in-range, failed, written}
 use borrow.Author.Needs.{needs}
 use Rattle.combination_directive.proofs.date.Statement.{statement}
 use Rattle.combination_directive.proofs.date.Tie as tie
@@ -71,13 +72,13 @@ same-length : tie.Need-same-length
 same-length c = search needs
 
 months : (c : tie.After-ones) → c .before .tens .result ∷ c .ones .result ∷ [] ≡ two (c .before .before .before .before .before .before .before .before .args .«record» .month)
-months c = pair _ (omega (arith, ranges (c .before .before .before .before .before))) (c .before .tens .ensures) (c .ones .ensures)
+months c = two-is _ (omega (arith, ranges (c .before .before .before .before .before))) (c .before .tens .ensures) (c .ones .ensures)
 
 days : (c : tie.After-ones2) → c .before .tens2 .result ∷ c .ones2 .result ∷ [] ≡ two (c .before .before .before .before .before .before .before .before .before .before .args .«record» .day)
-days c = pair _ (omega (arith, ranges (c .before .before .before .before .before .before .before))) (c .before .tens2 .ensures) (c .ones2 .ensures)
+days c = two-is _ (omega (arith, ranges (c .before .before .before .before .before .before .before))) (c .before .tens2 .ensures) (c .ones2 .ensures)
 
 years : (c : tie.After-ones3) → c .before .tens3 .result ∷ c .ones3 .result ∷ [] ≡ two (floorMod (c .before .before .before .before .before .before .before .before .before .before .before .before .args .«record» .year) 100)
-years c = pair _ (below (c .before .before .before .before .before .before)) (c .before .tens3 .ensures) (c .ones3 .ensures) ∙ ap two (year-is (c .before .before .before .before .before .before))
+years c = two-is _ (below (c .before .before .before .before .before .before)) (c .before .tens3 .ensures) (c .ones3 .ensures) ∙ ap two (year-is (c .before .before .before .before .before .before))
 
 returns-2 : tie.Need-returns-2
 unfolding combinationFields flatten

@@ -8,10 +8,11 @@ use Rattle.rules.specs.declared.Combination.the-variants.{CombinationDateTime}
 use Rattle.rules.specs.Decimal.{two}
 use Rattle.rules.specs.Record.{month, day, hour, minute, second, weekday}
 use Rattle.rules.specs.Writing.{yearText, dayText, combinationFields}
+use Rattle.rules.proofs.DecimalLaws.{two-is}
+use Rattle.rules.proofs.RecordLaws.{Each}
 use Rattle.text.proofs.RanLaws.{_then_, joined}
-use Rattle.combination_directive.proofs.RangeLaws.{Each, in-range}
-use Rattle.combination_directive.proofs.TextLaws.{pair, spaced-pair, date-time-text}
-use Rattle.combination_directive.proofs.CombinedLaws.{failed, written}
+use Rattle.combination_directive.proofs.TextLaws.{spaced-pair, date-time-text}
+use Rattle.combination_directive.proofs.CombinedLaws.{in-range, failed, written}
 use borrow.Author.Needs.{needs}
 use Rattle.combination_directive.proofs.date_time.Statement.{statement}
 use Rattle.combination_directive.proofs.date_time.Tie as tie
@@ -76,13 +77,13 @@ days : (c : tie.After-ones) → c .before .spaced-tens .result ∷ c .ones .resu
 days c = spaced-pair _ (omega (arith, ranges (c .before .before .before .before))) (c .before .spaced-tens .ensures) (c .ones .ensures)
 
 hours : (c : tie.After-ones2) → c .before .tens .result ∷ c .ones2 .result ∷ [] ≡ two (c .before .before .before .before .before .before .before .before .before .args .«record» .hour)
-hours c = pair _ (omega (arith, ranges (c .before .before .before .before .before .before))) (c .before .tens .ensures) (c .ones2 .ensures)
+hours c = two-is _ (omega (arith, ranges (c .before .before .before .before .before .before))) (c .before .tens .ensures) (c .ones2 .ensures)
 
 minutes : (c : tie.After-ones3) → c .before .tens2 .result ∷ c .ones3 .result ∷ [] ≡ two (c .before .before .before .before .before .before .before .before .before .before .before .args .«record» .minute)
-minutes c = pair _ (omega (arith, ranges (c .before .before .before .before .before .before .before .before))) (c .before .tens2 .ensures) (c .ones3 .ensures)
+minutes c = two-is _ (omega (arith, ranges (c .before .before .before .before .before .before .before .before))) (c .before .tens2 .ensures) (c .ones3 .ensures)
 
 seconds : (c : tie.After-ones4) → c .before .tens3 .result ∷ c .ones4 .result ∷ [] ≡ two (c .before .before .before .before .before .before .before .before .before .before .before .before .before .args .«record» .second)
-seconds c = pair _ (omega (arith, ranges (c .before .before .before .before .before .before .before .before .before .before))) (c .before .tens3 .ensures) (c .ones4 .ensures)
+seconds c = two-is _ (omega (arith, ranges (c .before .before .before .before .before .before .before .before .before .before))) (c .before .tens3 .ensures) (c .ones4 .ensures)
 
 returns-2 : tie.Need-returns-2
 unfolding combinationFields flatten

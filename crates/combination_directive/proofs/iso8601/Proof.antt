@@ -8,10 +8,11 @@ use Rattle.rules.specs.declared.Combination.the-variants.{CombinationIso8601}
 use Rattle.rules.specs.Decimal.{two}
 use Rattle.rules.specs.Record.{month, day}
 use Rattle.rules.specs.Writing.{yearText, combinationFields}
+use Rattle.rules.proofs.DecimalLaws.{two-is}
+use Rattle.rules.proofs.RecordLaws.{Each}
 use Rattle.text.proofs.RanLaws.{_then_, joined}
-use Rattle.combination_directive.proofs.RangeLaws.{Each, in-range}
-use Rattle.combination_directive.proofs.TextLaws.{pair, iso8601-text}
-use Rattle.combination_directive.proofs.CombinedLaws.{failed, written}
+use Rattle.combination_directive.proofs.TextLaws.{iso8601-text}
+use Rattle.combination_directive.proofs.CombinedLaws.{in-range, failed, written}
 use borrow.Author.Needs.{needs}
 use Rattle.combination_directive.proofs.iso8601.Statement.{statement}
 use Rattle.combination_directive.proofs.iso8601.Tie as tie
@@ -54,10 +55,10 @@ same-length : tie.Need-same-length
 same-length c = search needs
 
 months : (c : tie.After-ones) → c .before .tens .result ∷ c .ones .result ∷ [] ≡ two (c .before .before .before .before .before .args .«record» .month)
-months c = pair _ (omega (arith, ranges (c .before .before))) (c .before .tens .ensures) (c .ones .ensures)
+months c = two-is _ (omega (arith, ranges (c .before .before))) (c .before .tens .ensures) (c .ones .ensures)
 
 days : (c : tie.After-ones2) → c .before .tens2 .result ∷ c .ones2 .result ∷ [] ≡ two (c .before .before .before .before .before .before .before .args .«record» .day)
-days c = pair _ (omega (arith, ranges (c .before .before .before .before))) (c .before .tens2 .ensures) (c .ones2 .ensures)
+days c = two-is _ (omega (arith, ranges (c .before .before .before .before))) (c .before .tens2 .ensures) (c .ones2 .ensures)
 
 returns-2 : tie.Need-returns-2
 unfolding combinationFields flatten

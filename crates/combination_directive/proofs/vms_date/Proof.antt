@@ -5,12 +5,12 @@ use native.Mathlib.Omega.{arith}
 use Rattle.rules.specs.declared.Combination.the-variants.{CombinationVmsDate}
 use Rattle.rules.specs.Record.{month, day}
 use Rattle.rules.specs.Writing.{vmsYear, dayText, combinationFields}
+use Rattle.rules.proofs.RecordLaws.{Each}
 use Rattle.text.proofs.RanLaws.{_then_, joined}
 use Rattle.numbers.proofs.Signed.{widened}
 use Rattle.values.proofs.Laws.{widens}
-use Rattle.combination_directive.proofs.RangeLaws.{Each, in-range}
 use Rattle.combination_directive.proofs.TextLaws.{spaced-pair, vms-date-text}
-use Rattle.combination_directive.proofs.CombinedLaws.{failed, written}
+use Rattle.combination_directive.proofs.CombinedLaws.{in-range, failed, written}
 use borrow.Author.Needs.{needs}
 use Rattle.combination_directive.proofs.vms_date.Statement.{statement}
 use Rattle.combination_directive.proofs.vms_date.Tie as tie

@@ -9,8 +9,9 @@ use mir.ValLaws.{toZ-ofZ}
 use borrow.Author.Needs.{needs}
 use Rattle.rules.specs.Decimal.{zeros, filled}
 use Rattle.rules.specs.Writing.{yearWidth}
+use Rattle.rules.proofs.WidthLaws.{year-narrow}
 use Rattle.numbers.proofs.Signed.{widened}
-use Rattle.values.proofs.Laws.{widens, year-narrow}
+use Rattle.values.proofs.Laws.{widens}
 use Rattle.combination_directive.proofs.year_text_length.Statement.{statement}
 use Rattle.combination_directive.proofs.year_text_length.Tie as tie
 

@@ -2,8 +2,8 @@
 use mathlib.Core.Path.{sym, _∙_}
 use lib.ListN.{length}
 use Rattle.rules.specs.declared.Name.{Name}
+use Rattle.rules.proofs.WidthLaws.{length-cased}
 use Rattle.name_directive.specs.Named.{Named, lettersOf}
-use Rattle.name_directive.proofs.CaseLaws.{length-cased}
 use Rattle.name_directive.proofs.LetterLaws.{known, named-as, month-letters, day-letters, meridian-letters}
 use borrow.Author.Needs.{needs}
 use Rattle.name_directive.proofs.name_length.Statement.{statement}

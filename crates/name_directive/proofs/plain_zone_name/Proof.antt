@@ -1,5 +1,6 @@
 -- The check, and the name as it is.
-use Rattle.name_directive.proofs.RunLaws.{zone-empty, plain-zone-named, short}
+use Rattle.text.proofs.RanLaws.{room-short}
+use Rattle.name_directive.proofs.RunLaws.{zone-empty, plain-zone-named}
 use borrow.Author.Needs.{needs}
 use Rattle.name_directive.proofs.plain_zone_name.Statement.{statement}
 use Rattle.name_directive.proofs.plain_zone_name.Tie as tie
@@ -13,7 +14,7 @@ checked-requires c κs = search needs
 returns : tie.Need-returns
 returns c =
     let s = c .before .before .before .before .before in
-    λ r. zone-empty _ r (s .args .zone .now) (c .before .before .time-zone .ensures) (c .if1 .taken) (c .before .checked .ensures _ _ _ (short (s .pre .0)))
+    λ r. zone-empty _ r (s .args .zone .now) (c .before .before .time-zone .ensures) (c .if1 .taken) (c .before .checked .ensures _ _ _ (room-short (s .pre .0)))
 
 put-requires : tie.Need-put-requires
 put-requires c κs = search needs
@@ -24,7 +25,7 @@ same-length c = search needs
 returns-2 : tie.Need-returns-2
 returns-2 c =
     let s = c .before .before .before .before .before .before .before .before .before in
-    λ r. plain-zone-named r (s .args .zone .now) (c .before .before .before .before .before .before .time-zone .ensures) (c .before .before .before .before .if1 .left) (s .pre .1) (c .before .before .before .before .before .checked .ensures _ _ _ (short (s .pre .0))) (c .before .before .put .ensures _)
+    λ r. plain-zone-named r (s .args .zone .now) (c .before .before .before .before .before .before .time-zone .ensures) (c .before .before .before .before .if1 .left) (s .pre .1) (c .before .before .before .before .before .checked .ensures _ _ _ (room-short (s .pre .0))) (c .before .before .put .ensures _)
 
 pub plain-zone-name-spec : {M : Type 1} → statement M
 plain-zone-name-spec =

@@ -1,8 +1,10 @@
 -- Two digits, four digits, or the general way.
+use lib.Dec.{lit≤}
+use mir.Syntax.{w8, w32}
 use borrow.Author.Tests.{eqb-true}
 use Rattle.text.proofs.RanLaws.{said}
 use Rattle.printing.specs.FillWith.{fillWith}
-use Rattle.number_directive.proofs.QuickLaws.{Below, below-bound, as-read, cast-two, below-two, two-text, cast-four, four-text}
+use Rattle.number_directive.proofs.QuickLaws.{Below, below-bound, as-read, cast-few, few-below, few-text}
 use borrow.Author.Needs.{needs}
 use Rattle.number_directive.proofs.put_quick.Statement.{statement}
 use Rattle.number_directive.proofs.put_quick.Tie as tie
@@ -14,28 +16,28 @@ four-digits : (c : tie.Then8) → Below (c .before .before .before .before .befo
 four-digits c = below-bound _ 10000 (c .before .before .before .before .before .before .fits .v) (c .before .if7 .taken) (c .if8 .taken)
 
 cast-put-two : tie.Need-cast-put-two
-cast-put-two c = cast-two _ (two-digits (c .before))
+cast-put-two c = cast-few 2 _ (two-digits (c .before)) w8 (lit≤ tt)
 
 put-two-requires : tie.Need-put-two-requires
-put-two-requires c κs = (c .before .before .before .before .before .before .pre .0, below-two _ (two-digits (c .before)))
+put-two-requires c κs = (c .before .before .before .before .before .before .pre .0, few-below 2 _ (two-digits (c .before)))
 
 same-length : tie.Need-same-length
 same-length c = search needs
 
 returns : tie.Need-returns
-returns c = λ limit. said (two-text _ (two-digits (c .before .before .before .before)) (c .before .before .before .before .before .before .before .if1 .taken) (eqb-true (c .before .before .before .before .before .before .before .before .before .args .width) 2 (c .before .before .before .before .before .before .if2 .taken))) (c .before .before .put-two .ensures limit)
+returns c = λ limit. said (few-text 2 _ (two-digits (c .before .before .before .before)) (lit≤ tt) (c .before .before .before .before .before .before .before .if1 .taken) (eqb-true (c .before .before .before .before .before .before .before .before .before .args .width) 2 (c .before .before .before .before .before .before .if2 .taken))) (c .before .before .put-two .ensures limit)
 
-cast-put-year : tie.Need-cast-put-year
-cast-put-year c = cast-four _ (four-digits (c .before))
+cast-put-four : tie.Need-cast-put-four
+cast-put-four c = cast-few 4 _ (four-digits (c .before)) w32 (lit≤ tt)
 
-put-year-requires : tie.Need-put-year-requires
-put-year-requires c κs = search needs
+put-four-requires : tie.Need-put-four-requires
+put-four-requires c κs = (c .before .before .before .before .before .before .before .pre .0, few-below 4 _ (four-digits (c .before)))
 
 same-length-2 : tie.Need-same-length-2
 same-length-2 c = search needs
 
 returns-2 : tie.Need-returns-2
-returns-2 c = λ limit. said (four-text _ (four-digits (c .before .before .before .before)) (c .before .before .before .before .before .before .before .if5 .taken) (eqb-true (c .before .before .before .before .before .before .before .before .before .before .args .width) 4 (c .before .before .before .before .before .before .if6 .taken))) (c .before .before .put-year .ensures limit)
+returns-2 c = λ limit. said (few-text 4 _ (four-digits (c .before .before .before .before)) (lit≤ tt) (c .before .before .before .before .before .before .before .if5 .taken) (eqb-true (c .before .before .before .before .before .before .before .before .before .before .args .width) 4 (c .before .before .before .before .before .before .if6 .taken))) (c .before .before .put-four .ensures limit)
 
 put-decimal-requires : tie.Need-put-decimal-requires
 put-decimal-requires c κs = search needs
@@ -54,8 +56,8 @@ put-quick-spec =
     put-two-requires
     same-length
     returns
-    cast-put-year
-    put-year-requires
+    cast-put-four
+    put-four-requires
     same-length-2
     returns-2
     put-decimal-requires

@@ -1,8 +1,9 @@
 -- The hours, then a colon and the minutes.
 use native.Mathlib.Omega.{arith}
 use Rattle.rules.specs.Offset.{hh:mm, lengthOfForm}
+use Rattle.rules.proofs.DecimalLaws.{two-is}
 use Rattle.text.proofs.RanLaws.{said}
-use Rattle.offset_directive.proofs.TextLaws.{two-is, colon-minute}
+use Rattle.offset_directive.proofs.TextLaws.{colon-minute}
 use Rattle.offset_directive.proofs.WriteLaws.{hour-then}
 use borrow.Author.Needs.{needs}
 use Rattle.offset_directive.proofs.write_offset_hh_mm.Statement.{statement}

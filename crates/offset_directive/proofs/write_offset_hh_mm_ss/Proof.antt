@@ -1,8 +1,9 @@
 -- The hours, then the minutes and the seconds, each behind a colon.
 use native.Mathlib.Omega.{arith}
 use Rattle.rules.specs.Offset.{hh:mm:ss, lengthOfForm}
+use Rattle.rules.proofs.DecimalLaws.{two-is}
 use Rattle.text.proofs.RanLaws.{said}
-use Rattle.offset_directive.proofs.TextLaws.{two-is, colons-minute-second}
+use Rattle.offset_directive.proofs.TextLaws.{colons-minute-second}
 use Rattle.offset_directive.proofs.WriteLaws.{hour-then}
 use borrow.Author.Needs.{needs}
 use Rattle.offset_directive.proofs.write_offset_hh_mm_ss.Statement.{statement}

@@ -1,8 +1,8 @@
 -- The sign with its pad, then the hours.
 use native.Mathlib.Omega.{arith}
+use Rattle.rules.proofs.DecimalLaws.{digits-counted}
 use Rattle.numbers.proofs.CountLaws.{count-64}
 use Rattle.text.proofs.RanLaws.{_then_, said, room-kept}
-use Rattle.offset_directive.proofs.TextLaws.{digits-are}
 use borrow.Author.Needs.{needs}
 use Rattle.offset_directive.proofs.write_offset_hour.Statement.{statement}
 use Rattle.offset_directive.proofs.write_offset_hour.Tie as tie
@@ -33,7 +33,7 @@ same-length c = search needs
 
 returns : tie.Need-returns
 returns c = (rw (c .before .before .before .before .before .before .before .before .before .before .before .saturating-sub .ensures) at (c .before .before .before .before .before .before .before .before .write-sign-and-pad .ensures))
-    then said (digits-are _ (c .before .before .before .digit-count .ensures)) (c .before .before .put-places .ensures _)
+    then said (digits-counted _ (c .before .before .before .digit-count .ensures)) (c .before .before .put-places .ensures _)
 
 pub write-offset-hour-spec : {M : Type 1} → statement M
 write-offset-hour-spec =

@@ -5,10 +5,11 @@ use Prim.Native.Nat.{ℕ}
 use native.Mathlib.Omega.{arith}
 use Rattle.rules.specs.Decimal.{two}
 use Rattle.rules.specs.Offset.{Form, hh, hhmm, hh:mm, signOf, lengthOfForm}
+use Rattle.rules.proofs.DecimalLaws.{two-is}
 use Rattle.text.proofs.RanLaws.{said}
 use Rattle.offset_directive.specs.Parts.{partsText}
 use Rattle.offset_directive.proofs.FormLaws.{form-told, form-last}
-use Rattle.offset_directive.proofs.TextLaws.{two-is, colon-minute, colons-minute-second, short-text}
+use Rattle.offset_directive.proofs.TextLaws.{colon-minute, colons-minute-second, short-text}
 use borrow.Author.Needs.{needs}
 use Rattle.offset_directive.proofs.write_short.Statement.{statement}
 use Rattle.offset_directive.proofs.write_short.Tie as tie

@@ -13,6 +13,9 @@ enum-known-answer c = search needs
 number-of-requires : tie.Need-number-of-requires
 number-of-requires c κs = search needs
 
+cast-result : tie.Need-cast-result
+cast-result c = search needs
+
 returns : tie.Need-returns
 unfolding numbered
 returns c = search needs
@@ -23,4 +26,4 @@ returns-2 c = simp (c .before .before .answer .given .1, c .number-of .ensures)
 
 pub answer-number-spec : {M : Type 1} → statement M
 answer-number-spec =
-    tie.close (tie.spec enum-told enum-known-answer number-of-requires returns returns-2)
+    tie.close (tie.spec enum-told enum-known-answer number-of-requires cast-result returns returns-2)

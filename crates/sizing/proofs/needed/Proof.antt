@@ -1,5 +1,5 @@
 -- The run counts the text at the witness.
-use mathlib.Core.Path.{refl, sym}
+use mathlib.Core.Path.{sym}
 use lib.ListN.{replicate}
 use lib.Seq.{length-take-le}
 use Rattle.rules.specs.Ascii.{byte}

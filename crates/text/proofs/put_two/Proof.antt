@@ -4,7 +4,7 @@ use native.Mathlib.Omega.{arith}
 use lib.ListN.{length, length-set}
 use borrow.Author.Tests.{leb-true}
 use Rattle.rules.specs.Decimal.{places}
-use Rattle.rules.proofs.DecimalLaws.{two-digits-below}
+use Rattle.rules.proofs.DecimalLaws.{two-digits}
 use Rattle.text.proofs.OverlayLaws.{overlay-two}
 use Rattle.text.proofs.RanLaws.{said, placed}
 use Rattle.text.proofs.PlaceLaws.{fits-yes, fits-no}
@@ -39,7 +39,7 @@ same-length c = search needs
 returns : tie.Need-returns
 returns c =
     let k = fits-yes _ _ (c .before .fits2 .ensures) (c .if1 .taken) in
-    λ limit. said (sym (two-digits-below _ (c .before .before .before .pre .1))) (placed (sym (overlay-two _ _ _ _)) refl k (c .before .before .before .pre .0))
+    λ limit. said (sym (two-digits _ (c .before .before .before .pre .1))) (placed (sym (overlay-two _ _ _ _)) refl k (c .before .before .before .pre .0))
 
 missed-requires : tie.Need-missed-requires
 missed-requires c κs = search needs
@@ -48,7 +48,7 @@ returns-2 : tie.Need-returns-2
 returns-2 c =
     let k = fits-no _ _ (c .before .before .fits2 .ensures) (c .before .if1 .left) in
     let v = c .before .before .before .before .args .v in
-    λ limit. c .missed .ensures limit (places 2 v) _ (ap length (two-digits-below v (c .before .before .before .before .pre .1))) (c .before .before .before .before .pre .0 .within) k
+    λ limit. c .missed .ensures limit (places 2 v) _ (ap length (two-digits v (c .before .before .before .before .pre .1))) (c .before .before .before .before .pre .0 .within) k
 
 pub put-two-spec : {M : Type 1} → statement M
 put-two-spec =

@@ -7,8 +7,9 @@ use mir.Syntax.{w64}
 use mir.ValLaws.{toZ-ofZ}
 use borrow.Author.Needs.{needs}
 use Rattle.rules.specs.Writing.{yearWidth}
+use Rattle.rules.proofs.WidthLaws.{year-narrow}
 use Rattle.values.specs.Inner.{Valued}
-use Rattle.values.proofs.Laws.{renumbered, year-narrow}
+use Rattle.values.proofs.Laws.{renumbered}
 use Rattle.values.proofs.year.Statement.{statement}
 use Rattle.values.proofs.year.Tie as tie
 

@@ -1,8 +1,8 @@
 -- `number_of` by the refusal's cases.
 use borrow.Author.Needs.{needs}
 use Rattle.rules.specs.Refusal.{numberOf}
-use Rattle.say.proofs.number_of.Statement.{statement}
-use Rattle.say.proofs.number_of.Tie as tie
+use Rattle.rules.proofs.number_of.Statement.{statement}
+use Rattle.rules.proofs.number_of.Tie as tie
 
 enum-told : tie.Need-enum-told
 enum-told c = search needs
