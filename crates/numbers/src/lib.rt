@@ -105,10 +105,10 @@ pub fn digit_count(v: u64) -> usize
 }
 
 // How long the decimal text of v is.
-pub fn text_length(v: i64) -> usize
+pub fn text_length(v: i32) -> usize
     ensures { λ r. ⌜ r ≡ length (decimalText v) ⌝ }
 {
-    let n = digit_count(unsigned_abs64(v));
+    let n = digit_count(unsigned_abs(v) as u64);
     if v < 0 { n + 1 } else { n }
 }
 

@@ -155,7 +155,7 @@ pub fn year_length(year: i32, least: usize) -> usize
     requires { ⌜ least ≤ 65535 ⌝ }
     ensures { λ r. ⌜ r ≡ length (filled zeros least year) ⌝ }
 {
-    let length = numbers::text_length(year as i64);
+    let length = numbers::text_length(year);
     if length < least { least } else { length }
 }
 

@@ -1,26 +1,21 @@
 -- The longer of the width and the decimal text.
-use mathlib.Core.Path.{_≡_, ap, _∙_, subst⁻¹}
+use mathlib.Core.Path.{_≡_, ap, _∙_}
 use native.Mathlib.Omega.{arith}
 use lib.IntN.{ℤ}
 use lib.ListN.{length}
-use mir.Syntax.{w32, w64}
-use mir.Val.{SFits}
+use mir.Syntax.{w32}
 use mir.ValLaws.{toZ-ofZ}
 use Rattle.rules.specs.Decimal.{decimalText, zeros}
 use Rattle.rules.proofs.DecimalLaws.{length-filled}
-use Rattle.numbers.proofs.Signed.{widened, widened-fits}
 use borrow.Author.Needs.{needs}
 use Rattle.printing.proofs.year_length.Statement.{statement}
 use Rattle.printing.proofs.year_length.Tie as tie
-
-cast-text-length : tie.Need-cast-text-length
-cast-text-length c = subst⁻¹ (SFits w64) (toZ-ofZ w32 _ (c .fits .year)) (widened-fits _ (c .fits .year))
 
 text-length-requires : tie.Need-text-length-requires
 text-length-requires c κs = search needs
 
 length-is : (c : tie.After-text-length) → c .text-length .result ≡ length (decimalText (c .before .args .year))
-length-is c = c .text-length .ensures ∙ ap (λ (z : ℤ). length (decimalText z)) (widened _ (c .before .fits .year))
+length-is c = c .text-length .ensures ∙ ap (λ (z : ℤ). length (decimalText z)) (toZ-ofZ w32 _ (c .before .fits .year))
 
 returns : tie.Need-returns
 returns c = omega (arith, length-is (c .before), length-filled zeros (c .before .before .args .least) (c .before .before .args .year))
@@ -29,4 +24,4 @@ returns-2 : tie.Need-returns-2
 returns-2 c = omega (arith, length-is (c .before), length-filled zeros (c .before .before .args .least) (c .before .before .args .year))
 
 pub year-length-spec : {M : Type 1} → statement M
-year-length-spec = tie.close (tie.spec cast-text-length text-length-requires returns returns-2)
+year-length-spec = tie.close (tie.spec text-length-requires returns returns-2)
