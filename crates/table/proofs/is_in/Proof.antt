@@ -4,9 +4,9 @@ use Prim.Native.Nat.{_-_}
 use lib.ListN.{length, drop}
 use borrow.Author.Needs.{needs}
 use Rattle.rules.specs.Reading.{member}
-use Rattle.names.proofs.DirectiveLaws.{member-hit, member-miss, member-end}
-use Rattle.names.proofs.directives.is_in.Statement.{statement}
-use Rattle.names.proofs.directives.is_in.Tie as tie
+use Rattle.table.proofs.Laws.{member-hit, member-miss, member-end}
+use Rattle.table.proofs.is_in.Statement.{statement}
+use Rattle.table.proofs.is_in.Tie as tie
 
 abbrev Inv-loop : tie.InvT-loop
 Inv-loop table b i₀ i = member b (drop i table) ≡ member b table

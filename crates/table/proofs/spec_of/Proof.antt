@@ -1,8 +1,8 @@
 -- Each arm answers the row of its letter, and the last arm has none.
 use Rattle.rules.specs.Reading.{lookUp, possibleSpecs}
-use Rattle.names.proofs.DirectiveLaws.{row-of, no-row}
-use Rattle.names.proofs.directives.spec_of.Statement.{statement}
-use Rattle.names.proofs.directives.spec_of.Tie as tie
+use Rattle.table.proofs.Laws.{row-of, no-row}
+use Rattle.table.proofs.spec_of.Statement.{statement}
+use Rattle.table.proofs.spec_of.Tie as tie
 
 pub spec-of-spec : {M : Type 1} → statement M
 unfolding lookUp possibleSpecs

@@ -1,4 +1,4 @@
-// The table of directives and the letters before which `E` and `O` are skipped.
+// Ports the table of directives of mod.rs and its checks of assert.rs, and the letters before which `E` and `O` are skipped.
 ghost use mathlib.Core.Path.{_≡_};
 ghost use Rattle.rules.specs.Reading.{member, modified, possibleSpecs, specOf};
 ghost use Rattle.rules.proofs.Tables.{letters};

@@ -2,9 +2,9 @@
 use mathlib.Core.Path.{refl, _∙_}
 use borrow.Author.Needs.{needs}
 use Rattle.rules.specs.Reading.{possibleSpecs}
-use Rattle.names.proofs.DirectiveLaws.{of-table}
-use Rattle.names.proofs.directives.is_possible.Statement.{statement}
-use Rattle.names.proofs.directives.is_possible.Tie as tie
+use Rattle.table.proofs.Laws.{of-table}
+use Rattle.table.proofs.is_possible.Statement.{statement}
+use Rattle.table.proofs.is_possible.Tie as tie
 
 slice-aggregate-is-in : tie.Need-slice-aggregate-is-in
 slice-aggregate-is-in c = search needs

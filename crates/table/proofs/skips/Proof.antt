@@ -2,9 +2,9 @@
 use mathlib.Core.Path.{refl, _∙_}
 use borrow.Author.Needs.{needs}
 use Rattle.rules.specs.Reading.{modified}
-use Rattle.names.proofs.DirectiveLaws.{of-table, of-modifier}
-use Rattle.names.proofs.directives.skips.Statement.{statement}
-use Rattle.names.proofs.directives.skips.Tie as tie
+use Rattle.table.proofs.Laws.{of-table, of-modifier}
+use Rattle.table.proofs.skips.Statement.{statement}
+use Rattle.table.proofs.skips.Tie as tie
 
 enum-told : tie.Need-enum-told
 enum-told c = search needs
