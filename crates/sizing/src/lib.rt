@@ -12,7 +12,7 @@ use reading::is_valid;
 use rules::Answer;
 use rules::Record;
 use rules::Refusal;
-use strftime::run;
+use walk::run;
 
 // The record that is longest in every field but the month.
 fn witness(month: u8) -> Record

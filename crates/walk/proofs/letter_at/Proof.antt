@@ -1,9 +1,9 @@
 -- A letter of the format, or none past its end.
 use mathlib.Core.Path.{sym, _∙_}
-use Rattle.strftime.proofs.LetterLaws.{none-there}
+use Rattle.walk.proofs.LetterLaws.{none-there}
 use borrow.Author.Needs.{needs}
-use Rattle.strftime.proofs.letter_at.Statement.{statement}
-use Rattle.strftime.proofs.letter_at.Tie as tie
+use Rattle.walk.proofs.letter_at.Statement.{statement}
+use Rattle.walk.proofs.letter_at.Tie as tie
 
 shared-slice-read-spec-of : tie.Need-shared-slice-read-spec-of
 shared-slice-read-spec-of c = search needs

@@ -3,10 +3,10 @@ use mathlib.Core.Path.{refl, sym, _∙_}
 use native.Mathlib.Omega.{arith}
 use Rattle.reading.proofs.Positions.{items-at}
 use Rattle.reading.proofs.ElseBranches.{only-cut}
-use Rattle.strftime.proofs.WalkLaws.{step-directive, step-echo, step-cut}
+use Rattle.walk.proofs.WalkLaws.{step-directive, step-echo, step-cut}
 use borrow.Author.Needs.{needs}
-use Rattle.strftime.proofs.parsed_item.Statement.{statement}
-use Rattle.strftime.proofs.parsed_item.Tie as tie
+use Rattle.walk.proofs.parsed_item.Statement.{statement}
+use Rattle.walk.proofs.parsed_item.Tie as tie
 
 add-parse-spec : tie.Need-add-parse-spec
 add-parse-spec c = search needs

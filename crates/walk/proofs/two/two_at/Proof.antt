@@ -1,8 +1,8 @@
 -- The letter that is there, or no letter.
 use native.Mathlib.Omega.{arith}
 use borrow.Author.Needs.{needs}
-use Rattle.strftime.proofs.two.two_at.Statement.{statement}
-use Rattle.strftime.proofs.two.two_at.Tie as tie
+use Rattle.walk.proofs.two.two_at.Statement.{statement}
+use Rattle.walk.proofs.two.two_at.Tie as tie
 
 add-next : tie.Need-add-next
 add-next c = search needs

@@ -25,10 +25,10 @@ use Rattle.text.specs.Ran.{Ran}
 use Rattle.text.proofs.RanLaws.{same-events, checks-hold, pad-none}
 use Rattle.reading.proofs.Laws.{by-turn}
 use Rattle.reading.proofs.Positions.{items-at}
-use Rattle.strftime.specs.declared.Step.{Step}
-use Rattle.strftime.specs.Steps.{Stepped}
-use Rattle.strftime.specs.Two.{Two, Held}
-use Rattle.strftime.proofs.WalkLaws.{step-directive}
+use Rattle.walk.specs.declared.Step.{Step}
+use Rattle.walk.specs.Steps.{Stepped}
+use Rattle.walk.specs.Two.{Two, Held}
+use Rattle.walk.proofs.WalkLaws.{step-directive}
 
 -- the letter b is a number of two places filled with zeros, which reads one field
 pub record Letter (b : ℕ) (n : Number) (f : Field) (field : Record → ℕ) : Type 0 where

@@ -17,8 +17,8 @@ use Rattle.text.specs.Ran.{Ran}
 use Rattle.text.proofs.CountLaws.{join-counts}
 use Rattle.text.proofs.RanLaws.{_then_, nothing, same-events, alike}
 use Rattle.reading.proofs.Positions.{Part, Last}
-use Rattle.strftime.specs.declared.Step.{Step}
-use Rattle.strftime.specs.Steps.{Stepped}
+use Rattle.walk.specs.declared.Step.{Step}
+use Rattle.walk.specs.Steps.{Stepped}
 
 -- ## Literal bytes are one write
 

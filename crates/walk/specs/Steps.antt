@@ -7,7 +7,7 @@ use Rattle.rules.specs.declared.Record.{Record}
 use Rattle.rules.specs.Writing.{eventsOf}
 use Rattle.rules.specs.Format.{Item, between, read, events}
 use Rattle.text.specs.Ran.{Ran}
-use Rattle.strftime.specs.declared.Step.{Step}
+use Rattle.walk.specs.declared.Step.{Step}
 
 -- from position i of the format and place n, over the list l: some items, the first of what is left, were run
 pub record Stepped (limit room : ℕ) (r : Record) (zone format : List ℕ) (i : ℕ) (l : List ℕ) (n : ℕ) (l′ : List ℕ) (s : Step) : Type 0 where

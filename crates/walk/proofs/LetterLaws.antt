@@ -20,9 +20,9 @@ use Rattle.text.specs.Ran.{Ran}
 use Rattle.printing.specs.Plain.{plainPiece}
 use Rattle.reading.proofs.Laws.{by-turn}
 use Rattle.reading.proofs.Positions.{items-at}
-use Rattle.strftime.specs.declared.Step.{Step}
-use Rattle.strftime.specs.Steps.{Stepped}
-use Rattle.strftime.proofs.WalkLaws.{step-directive}
+use Rattle.walk.specs.declared.Step.{Step}
+use Rattle.walk.specs.Steps.{Stepped}
+use Rattle.walk.proofs.WalkLaws.{step-directive}
 
 abbrev turns : List Row → List Turn
 turns rows = map (λ (r : Row). turn (InFlags outset) (r .letter)) rows

@@ -1,7 +1,7 @@
 // The commonest directives, `H M S d m` with no flag and no width, read straight off: a quick way to what the parser and `directive` do.
 ghost use Prim.Native.Nat.{_+_, _<_};
 ghost use lib.ListN.{length, getD};
-ghost use Rattle.strftime.specs.Two.{Two, Held};
+ghost use Rattle.walk.specs.Two.{Two, Held};
 use rules::Record;
 
 // A number in range, or 100.

@@ -1,9 +1,9 @@
 -- Each arm by the law of its letter.
 use native.Mathlib.Omega.{arith}
-use Rattle.strftime.proofs.TwoLaws.{letters, two-digits}
+use Rattle.walk.proofs.TwoLaws.{letters, two-digits}
 use borrow.Author.Needs.{needs}
-use Rattle.strftime.proofs.two.two_of.Statement.{statement}
-use Rattle.strftime.proofs.two.two_of.Tie as tie
+use Rattle.walk.proofs.two.two_of.Statement.{statement}
+use Rattle.walk.proofs.two.two_of.Tie as tie
 
 hour-requires : tie.Need-hour-requires
 hour-requires c κs = search needs

@@ -1,10 +1,10 @@
 -- Two quick digits, a plain directive, or what the parser finds.
 use mathlib.Core.Path.{refl}
-use Rattle.strftime.proofs.TwoLaws.{step-two}
-use Rattle.strftime.proofs.LetterLaws.{step-letter}
+use Rattle.walk.proofs.TwoLaws.{step-two}
+use Rattle.walk.proofs.LetterLaws.{step-letter}
 use borrow.Author.Needs.{needs}
-use Rattle.strftime.proofs.item.Statement.{statement}
-use Rattle.strftime.proofs.item.Tie as tie
+use Rattle.walk.proofs.item.Statement.{statement}
+use Rattle.walk.proofs.item.Tie as tie
 
 two-at-requires : tie.Need-two-at-requires
 two-at-requires c κs = search needs

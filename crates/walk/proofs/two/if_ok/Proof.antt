@@ -1,8 +1,8 @@
 -- 100 is not below 100.
 use native.Mathlib.Omega.{arith}
 use borrow.Author.Needs.{needs}
-use Rattle.strftime.proofs.two.if_ok.Statement.{statement}
-use Rattle.strftime.proofs.two.if_ok.Tie as tie
+use Rattle.walk.proofs.two.if_ok.Statement.{statement}
+use Rattle.walk.proofs.two.if_ok.Tie as tie
 
 returns : tie.Need-returns
 returns c = search needs

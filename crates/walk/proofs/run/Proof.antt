@@ -4,10 +4,10 @@ use native.Mathlib.Omega.{arith}
 use lib.ListN.{length}
 use Rattle.text.proofs.RanLaws.{room-kept}
 use Rattle.reading.proofs.Positions.{items-at}
-use Rattle.strftime.proofs.WalkLaws.{Walked, walk-start, walk-item, walk-literals, walk-end}
+use Rattle.walk.proofs.WalkLaws.{Walked, walk-start, walk-item, walk-literals, walk-end}
 use borrow.Author.Needs.{needs}
-use Rattle.strftime.proofs.run.Statement.{statement}
-use Rattle.strftime.proofs.run.Tie as tie
+use Rattle.walk.proofs.run.Statement.{statement}
+use Rattle.walk.proofs.run.Tie as tie
 
 abbrev Inv-loop : tie.InvT-loop
 Inv-loop format zone «record» out₀ room limit at₀ i₀ out at i = Walked limit room «record» zone format out₀ i out at
