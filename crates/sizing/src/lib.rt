@@ -7,7 +7,7 @@ ghost use Rattle.rules.specs.Record.{within};
 ghost use Rattle.rules.specs.Refusal.{numbered};
 ghost use Rattle.rules.specs.Format.{items, whole};
 ghost use Rattle.rules.specs.Size.{AnyStamp, GoodStamp, Sizing};
-ghost use Rattle.sizing.specs.Witness.{longestIn, lengthAt, sizeOf};
+ghost use Rattle.longest.specs.Witness.{longestIn, lengthAt, sizeOf};
 use reading::is_valid;
 use rules::Answer;
 use rules::Record;

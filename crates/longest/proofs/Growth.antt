@@ -20,8 +20,8 @@ use Rattle.rules.specs.Record.{InRange}
 use Rattle.rules.specs.Event.{lengthOf}
 use Rattle.rules.specs.Writing.{widthOr, eventsOf}
 use Rattle.rules.specs.Format.{Item, literal, echo, directive, cut, events}
-use Rattle.sizing.proofs.Measure.{Extent, extentOf, numberLength, nameLength, zoneLength, combinationSize, specLength, itemLength, totalLength}
-use Rattle.sizing.proofs.Lengths.{length-format}
+use Rattle.longest.proofs.Measure.{Extent, extentOf, numberLength, nameLength, zoneLength, combinationSize, specLength, itemLength, totalLength}
+use Rattle.longest.proofs.Lengths.{length-format}
 
 -- no measure of d is above e's
 pub record Below (d e : Extent) : Type 0 where

@@ -3,7 +3,7 @@ use mathlib.Core.List.{List, [], _∷_}
 use Prim.Native.Nat.{ℕ}
 use Rattle.rules.specs.Ascii.{ascii}
 use Rattle.rules.specs.Refusal.{Report}
-use Rattle.sizing.specs.Witness.{refuses, needing}
+use Rattle.longest.specs.Witness.{refuses, needing}
 
 -- a format, the longest zone name, and the report
 pub record SizingEdge : Type 0 where

@@ -24,13 +24,13 @@ use Rattle.rules.specs.Week.{weekNumber}
 use Rattle.rules.specs.Offset.{formOf}
 use Rattle.rules.specs.Writing.{valueOf, defaultWidth}
 use Rattle.rules.proofs.RecordLaws.{in-range}
-use Rattle.sizing.specs.Witness.{september, december, witness}
-use Rattle.sizing.proofs.NameTables.{month-letters, month-longest, late-month-longest, day-longest}
-use Rattle.sizing.proofs.Combinations.{length-meridian}
-use Rattle.sizing.proofs.Mending.{letters-ok}
-use Rattle.sizing.proofs.Measure.{textLength, widthIn, formLength, extentOf}
-use Rattle.sizing.proofs.Growth.{Below}
-use Rattle.sizing.proofs.Bounds.{Bounds, Within, Meets, few, most, at-most}
+use Rattle.longest.specs.Witness.{september, december, witness}
+use Rattle.longest.proofs.NameTables.{month-letters, month-longest, late-month-longest, day-longest}
+use Rattle.longest.proofs.Combinations.{length-meridian}
+use Rattle.longest.proofs.Mending.{letters-ok}
+use Rattle.longest.proofs.Measure.{textLength, widthIn, formLength, extentOf}
+use Rattle.longest.proofs.Growth.{Below}
+use Rattle.longest.proofs.Bounds.{Bounds, Within, Meets, few, most, at-most}
 
 module _ (y t o : ℤ) (m longest : ℕ) where
   pub witness-zone : length (witness y t o m longest .zone) ≡ longest

@@ -23,14 +23,14 @@ use Rattle.rules.specs.Size.{NoneServes, Kept, Sizing, Typed, AnyStamp, GoodSta
 use Rattle.rules.proofs.DecimalLaws.{count-le, length-text-pos, length-text-neg}
 use Rattle.rules.proofs.WeekLaws.{iso-year-near}
 use Rattle.rules.proofs.WidthLaws.{year-narrow, extra-small}
-use Rattle.sizing.specs.Witness.{september, december, witness, longestIn, sizeOf}
-use Rattle.sizing.proofs.Members.{Sets}
-use Rattle.sizing.proofs.Extremes.{Extremes, Twin}
-use Rattle.sizing.proofs.Mending.{mend, mend-in-range, mend-zone, mend-beside}
-use Rattle.sizing.proofs.Bounds.{Bounds, Within, Meets}
-use Rattle.sizing.proofs.Witnesses.{witness-in-range, witness-zone, below-either}
-use Rattle.sizing.proofs.Once.{once, five-if, two-if, six-if}
-use Rattle.sizing.proofs.BySets.{sizing-by}
+use Rattle.longest.specs.Witness.{september, december, witness, longestIn, sizeOf}
+use Rattle.longest.proofs.Members.{Sets}
+use Rattle.longest.proofs.Extremes.{Extremes, Twin}
+use Rattle.longest.proofs.Mending.{mend, mend-in-range, mend-zone, mend-beside}
+use Rattle.longest.proofs.Bounds.{Bounds, Within, Meets}
+use Rattle.longest.proofs.Witnesses.{witness-in-range, witness-zone, below-either}
+use Rattle.longest.proofs.Once.{once, five-if, two-if, six-if}
+use Rattle.longest.proofs.BySets.{sizing-by}
 
 abbrev bounds : Bounds
 bounds = record { year = 11; century = 9; iso = 11; sign = 5; to-int = 20; hours = 7; form = 9 }

@@ -11,11 +11,11 @@ use Rattle.rules.specs.Offset.{extra, formOf, lengthOfForm}
 use Rattle.rules.specs.Reading.{onFlag, possibleSpecs, lookUp, onLetter, onColons, turn, open?}
 use Rattle.rules.specs.Writing.{valueOf, defaultWidth}
 use Rattle.rules.specs.Format.{items, step, ending, read, whole}
-use Rattle.sizing.specs.Witness.{Stamp, september, december, witness, longestIn, lengthAt, greater, reportOf, sizeBy, sizeOf}
-use Rattle.sizing.specs.SizingEdges.{SizingEdge, sizingEdges}
-use Rattle.sizing.proofs.Measure.{extentOf, numberLength, nameLength, zoneLength, specLength, itemLength, totalLength}
-use Rattle.sizing.proofs.Lengths.{length-format}
-use Rattle.sizing.proofs.Witnesses.{witness-in-range}
+use Rattle.longest.specs.Witness.{Stamp, september, december, witness, longestIn, lengthAt, greater, reportOf, sizeBy, sizeOf}
+use Rattle.longest.specs.SizingEdges.{SizingEdge, sizingEdges}
+use Rattle.longest.proofs.Measure.{extentOf, numberLength, nameLength, zoneLength, specLength, itemLength, totalLength}
+use Rattle.longest.proofs.Lengths.{length-format}
+use Rattle.longest.proofs.Witnesses.{witness-in-range}
 
 abbrev formulaAt : Stamp → List ℕ → ℕ
 formulaAt s format = totalLength (items format) (extentOf (s .time) (s .zone))

@@ -22,8 +22,8 @@ use Rattle.rules.specs.Event.{Event, write, check}
 use Rattle.rules.specs.Name.{nameOf}
 use Rattle.rules.specs.Writing.{valueOf, combinationText, numberFields, nameFields, combinationFields, fieldsOf, leadOf, bodyOf, specEvents, eventsOf}
 use Rattle.rules.proofs.RecordLaws.{Passed, passed, all-ok}
-use Rattle.sizing.specs.Witness.{Stamp}
-use Rattle.sizing.proofs.Beside.{Beside, fails, beside-self, beside-join}
+use Rattle.longest.specs.Witness.{Stamp}
+use Rattle.longest.proofs.Beside.{Beside, fails, beside-self, beside-join}
 
 -- each field as it is, or else one in range
 unfoldable pub mend : Record → List ℕ → Stamp

@@ -9,7 +9,7 @@ use lib.ListN.{length, drop, getD}
 use borrow.Author.Tests.{leb-true}
 use Rattle.rules.specs.Name.{dayNames, monthNames, dayName, monthName}
 use Rattle.rules.proofs.RecordLaws.{both}
-use Rattle.sizing.specs.Witness.{september, december}
+use Rattle.longest.specs.Witness.{september, december}
 
 abbrev every : (List ℕ → Bool) → List (List ℕ) → Bool
 every test [] = true

@@ -15,9 +15,9 @@ use Rattle.rules.specs.Refusal.{Report}
 use Rattle.rules.specs.Event.{done, Holds}
 use Rattle.rules.specs.Format.{items, whole, limitOf, formatEvents, formatted}
 use Rattle.rules.specs.Size.{Stamps, SizeIs, NoneServes, Kept, Sizing, too-long, ends-inside, no-buffer, needs}
-use Rattle.sizing.specs.Witness.{needing}
-use Rattle.sizing.proofs.Fitting.{run-done}
-use Rattle.sizing.proofs.Members.{Sets, member-unchecked}
+use Rattle.longest.specs.Witness.{needing}
+use Rattle.longest.proofs.Fitting.{run-done}
+use Rattle.longest.proofs.Members.{Sets, member-unchecked}
 
 -- a set whose needy members are among those that another size serves has no greater size
 pub size-le : {Every Some Every′ Some′ : Stamps} {format : List ℕ} {m n : ℕ} → ((r : Record) (zone : List ℕ) → Some′ r zone → Every r zone) → SizeIs Every Some format m → SizeIs Every′ Some′ format n → n ≤ m

@@ -20,7 +20,7 @@ use Rattle.rules.proofs.FloorLaws.{mod-below}
 use Rattle.rules.proofs.RecordLaws.{in-range}
 use Rattle.rules.proofs.WeekLaws.{week-number-to, iso-week-to}
 use Rattle.rules.proofs.WidthLaws.{hour12-below}
-use Rattle.sizing.proofs.Measure.{textLength, widthIn, hoursLength, formLength}
+use Rattle.longest.proofs.Measure.{textLength, widthIn, hoursLength, formLength}
 
 -- the longest texts of year, century, ISO year and to_int, the default width of a year, the hours of the offset, and the form of `:::z`
 pub record Bounds : Type 0 where

@@ -9,7 +9,7 @@ use Rattle.rules.specs.declared.Piece.{Piece}
 use Rattle.rules.specs.Event.{Event, write, check, sizeOf, textOf, lengthOf, Count, at, no, one, tally, done, refused, outcomeOf, run, Holds}
 use Rattle.rules.specs.Format.{Item, literal, echo, directive, cut, itemEvents, events}
 use Rattle.rules.proofs.EventLaws.{write-fits}
-use Rattle.sizing.proofs.Fitting.{Ends, ends-no}
+use Rattle.longest.proofs.Fitting.{Ends, ends-no}
 
 pub data Beside (Allowed : ℕ → Type 0) : List Event → List Event → Type 0 where
   both-end : Beside Allowed [] []

@@ -12,9 +12,9 @@ use Rattle.rules.specs.Record.{longestFormat, longestZone, longestBuffer}
 use Rattle.rules.specs.Format.{items, whole}
 use Rattle.rules.specs.Size.{Stamps, SizeIs, NoneServes, Kept, Sizing, too-long, ends-inside, no-buffer, needs}
 use Rattle.rules.proofs.EventLaws.{splitOn}
-use Rattle.sizing.specs.Witness.{Stamp, greater, tooLong, noBuffer, reportOf, sizeBy}
-use Rattle.sizing.proofs.Members.{Sets}
-use Rattle.sizing.proofs.Extremes.{Extremes, Twin, size-is-greater, none-serves-greater}
+use Rattle.longest.specs.Witness.{Stamp, greater, tooLong, noBuffer, reportOf, sizeBy}
+use Rattle.longest.proofs.Members.{Sets}
+use Rattle.longest.proofs.Extremes.{Extremes, Twin, size-is-greater, none-serves-greater}
 
 either : (a b : Bool) → T (a || b) → T a ⊎ T b
 either true b t = inl tt

@@ -12,9 +12,9 @@ use Rattle.rules.specs.Writing.{eventsOf}
 use Rattle.rules.specs.Format.{items, read, ending, events, whole, limitOf, formatted}
 use Rattle.rules.specs.Size.{Stamps, textFor, Kept}
 use Rattle.rules.proofs.FormatLaws.{runs}
-use Rattle.sizing.specs.Witness.{Stamp, lengthAt}
-use Rattle.sizing.proofs.Fitting.{run-fits, run-short, run-unchecked}
-use Rattle.sizing.proofs.Checks.{in-range-holds}
+use Rattle.longest.specs.Witness.{Stamp, lengthAt}
+use Rattle.longest.proofs.Fitting.{run-fits, run-short, run-unchecked}
+use Rattle.longest.proofs.Checks.{in-range-holds}
 
 -- the sets of a size: Every is to be served, and a member of Some to need it all
 pub record Sets (longest : ℕ) (Every Some : Stamps) : Type 0 where

@@ -22,8 +22,8 @@ use Rattle.rules.specs.Format.{Item, literal, echo, directive, cut, itemEvents,
 use Rattle.rules.proofs.EventLaws.{length-join}
 use Rattle.rules.proofs.DecimalLaws.{length-places, length-filled}
 use Rattle.rules.proofs.WidthLaws.{length-cased}
-use Rattle.sizing.proofs.Combinations.{combination-length}
-use Rattle.sizing.proofs.Measure.{extentOf, numberLength, nameLength, zoneLength, combinationSize, specLength, itemLength, totalLength}
+use Rattle.longest.proofs.Combinations.{combination-length}
+use Rattle.longest.proofs.Measure.{extentOf, numberLength, nameLength, zoneLength, combinationSize, specLength, itemLength, totalLength}
 
 abbrev writesLength : List Write → ℕ
 writesLength ws = lengthOf (map write ws)

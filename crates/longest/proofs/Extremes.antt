@@ -13,12 +13,12 @@ use Rattle.rules.specs.Record.{longestBuffer}
 use Rattle.rules.specs.Writing.{eventsOf}
 use Rattle.rules.specs.Format.{items, whole, limitOf}
 use Rattle.rules.specs.Size.{Stamps, SizeIs, NoneServes, Kept}
-use Rattle.sizing.specs.Witness.{Stamp, lengthAt, greater}
-use Rattle.sizing.proofs.Fitting.{run-done}
-use Rattle.sizing.proofs.Beside.{Beside, events-beside, run-beside}
-use Rattle.sizing.proofs.Measure.{extentOf}
-use Rattle.sizing.proofs.Growth.{Below, text-grows}
-use Rattle.sizing.proofs.Members.{Sets, every-runs, within-limit, member-holds, member-fits, member-short}
+use Rattle.longest.specs.Witness.{Stamp, lengthAt, greater}
+use Rattle.longest.proofs.Fitting.{run-done}
+use Rattle.longest.proofs.Beside.{Beside, events-beside, run-beside}
+use Rattle.longest.proofs.Measure.{extentOf}
+use Rattle.longest.proofs.Growth.{Below, text-grows}
+use Rattle.longest.proofs.Members.{Sets, every-runs, within-limit, member-holds, member-fits, member-short}
 
 pub record Extremes (Some : Stamps) (a b : Stamp) : Type 0 where
   pub a-in : Some (a .time) (a .zone)

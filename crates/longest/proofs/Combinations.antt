@@ -19,7 +19,7 @@ use Rattle.rules.proofs.EventLaws.{splitOn}
 use Rattle.rules.proofs.DecimalLaws.{length-places, length-filled, count-le, length-text-pos}
 use Rattle.rules.proofs.RecordLaws.{Within, Each, ranges-of, all-ok}
 use Rattle.rules.proofs.WidthLaws.{length-cased}
-use Rattle.sizing.proofs.NameTables.{month-letters, day-letters}
+use Rattle.longest.proofs.NameTables.{month-letters, day-letters}
 
 pub length-meridian : (hour : ℕ) (am pm : List ℕ) → length am ≡ 2 → length pm ≡ 2 → length (before12 hour am pm) ≡ 2
 length-meridian hour am pm a p = splitOn (λ text. length text ≡ 2) (ltb hour 12) (λ t. a) (λ t. p)
