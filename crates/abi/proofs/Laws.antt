@@ -16,7 +16,7 @@ use Rattle.rules.specs.Refusal.{numberOf, Report, numbered}
 use Rattle.rules.specs.Event.{Outcome, done, refused, reported, bufferAfter}
 use Rattle.rules.specs.Format.{formatted}
 use Rattle.rules.specs.Size.{AnyStamp, GoodStamp, Sizing}
-use Rattle.sizing.specs.Witness.{sizeOf}
+use Rattle.longest.specs.Witness.{sizeOf}
 use Rattle.rules.proofs.FormatLaws.{format-too-long, zone-too-long, buffer-too-long}
 use Rattle.rules.proofs.Demands.{done-fits}
 use Rattle.abi.specs.declared.GsRecord.{GsRecord}

@@ -6,7 +6,7 @@ ghost use Rattle.rules.specs.Event.{reported, bufferAfter};
 ghost use Rattle.rules.specs.Format.{formatted};
 ghost use Rattle.rules.specs.Refusal.{numbered};
 ghost use Rattle.rules.specs.Size.{AnyStamp, GoodStamp, Sizing};
-ghost use Rattle.sizing.specs.Witness.{sizeOf};
+ghost use Rattle.longest.specs.Witness.{sizeOf};
 ghost use Rattle.abi.specs.Entries.{recordFrom, reportFrom};
 use rules::Answer;
 use rules::Record;

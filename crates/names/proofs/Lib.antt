@@ -1,4 +1,3 @@
 pub mod CalendarLaws
-pub mod DirectiveLaws
 pub mod MatchLaws
 pub mod TestLaws

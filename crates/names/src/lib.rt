@@ -1,3 +1,2 @@
-// Ports the tables of mod.rs and the checks of assert.rs.
+// Ports the tables of names of mod.rs, and their checks of assert.rs.
 pub mod calendar;
-pub mod directives;

@@ -11,8 +11,6 @@ ghost use Rattle.rules.specs.Reading.{outset, onFlag, isDigit, widthWith, tooWi
 ghost use Rattle.rules.specs.Format.{parseFrom, valid};
 ghost use Rattle.reading.specs.Stages.{flagTurn, entered, colonEntry, turned};
 ghost use Rattle.reading.specs.Literals.{literalEnd};
-use names::directives::skips;
-use names::directives::spec_of;
 use rules::Entry;
 use rules::Flag;
 use rules::Flags;
@@ -24,6 +22,8 @@ use rules::Parsed;
 use rules::Piece;
 use rules::Spec;
 use rules::Width;
+use table::skips;
+use table::spec_of;
 
 // What a byte after the percent sign makes of the options, if it is a flag.
 enum FlagStep {

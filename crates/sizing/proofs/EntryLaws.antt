@@ -22,12 +22,12 @@ use Rattle.rules.specs.Size.{AnyStamp, GoodStamp, Sizing}
 use Rattle.rules.proofs.EventLaws.{splitOn}
 use Rattle.text.specs.Ran.{Ran}
 use Rattle.text.proofs.EntryLaws.{counted, ran-refused}
-use Rattle.sizing.specs.Witness.{september, december, witness, longestIn, lengthAt, greater, tooLong, noBuffer, refuses, needing, reportOf, sizeBy, sizeOf}
-use Rattle.sizing.proofs.Fitting.{run-fits}
-use Rattle.sizing.proofs.Checks.{in-range-holds}
-use Rattle.sizing.proofs.Members.{within-limit}
-use Rattle.sizing.proofs.Witnesses.{witness-in-range}
-use Rattle.sizing.proofs.ThirdDemand.{size-is}
+use Rattle.longest.specs.Witness.{september, december, witness, longestIn, lengthAt, greater, tooLong, noBuffer, refuses, needing, reportOf, sizeBy, sizeOf}
+use Rattle.longest.proofs.Fitting.{run-fits}
+use Rattle.longest.proofs.Checks.{in-range-holds}
+use Rattle.longest.proofs.Members.{within-limit}
+use Rattle.longest.proofs.Witnesses.{witness-in-range}
+use Rattle.longest.proofs.ThirdDemand.{size-is}
 
 -- the front of a run of one byte
 pub take-replicate : (k n x : ℕ) → k ≤ n → take k (replicate n x) ≡ replicate k x

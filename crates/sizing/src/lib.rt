@@ -7,12 +7,12 @@ ghost use Rattle.rules.specs.Record.{within};
 ghost use Rattle.rules.specs.Refusal.{numbered};
 ghost use Rattle.rules.specs.Format.{items, whole};
 ghost use Rattle.rules.specs.Size.{AnyStamp, GoodStamp, Sizing};
-ghost use Rattle.sizing.specs.Witness.{longestIn, lengthAt, sizeOf};
+ghost use Rattle.longest.specs.Witness.{longestIn, lengthAt, sizeOf};
 use reading::is_valid;
 use rules::Answer;
 use rules::Record;
 use rules::Refusal;
-use strftime::run;
+use walk::run;
 
 // The record that is longest in every field but the month.
 fn witness(month: u8) -> Record

@@ -1,4 +1,1 @@
 pub mod EntryOutcomes
-pub mod LetterLaws
-pub mod TwoLaws
-pub mod WalkLaws

@@ -1,5 +1,5 @@
 use mathlib.Core.Path.{refl}
-use Rattle.sizing.specs.Witness as sizes
+use Rattle.longest.specs.Witness as sizes
 use Rattle.sizing.proofs.witness.Statement.{statement}
 use Rattle.sizing.proofs.witness.Tie as tie
 

@@ -1,0 +1,17 @@
+pub mod Beside
+pub mod Bounds
+pub mod BySets
+pub mod Checks
+pub mod Combinations
+pub mod Extremes
+pub mod Fitting
+pub mod Growth
+pub mod Lengths
+pub mod Measure
+pub mod Members
+pub mod Mending
+pub mod NameTables
+pub mod Once
+pub mod SizingEdgesHold
+pub mod ThirdDemand
+pub mod Witnesses

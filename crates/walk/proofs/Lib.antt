@@ -1,0 +1,3 @@
+pub mod LetterLaws
+pub mod TwoLaws
+pub mod WalkLaws

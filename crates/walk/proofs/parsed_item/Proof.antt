@@ -1,0 +1,73 @@
+-- A directive, an echo or a cut, by what is parsed.
+use mathlib.Core.Path.{refl, sym, _∙_}
+use native.Mathlib.Omega.{arith}
+use Rattle.reading.proofs.Positions.{items-at}
+use Rattle.reading.proofs.ElseBranches.{only-cut}
+use Rattle.walk.proofs.WalkLaws.{step-directive, step-echo, step-cut}
+use borrow.Author.Needs.{needs}
+use Rattle.walk.proofs.parsed_item.Statement.{statement}
+use Rattle.walk.proofs.parsed_item.Tie as tie
+
+add-parse-spec : tie.Need-add-parse-spec
+add-parse-spec c = search needs
+
+parse-spec-requires : tie.Need-parse-spec-requires
+parse-spec-requires c κs = search needs
+
+enum-known-parsed : tie.Need-enum-known-parsed
+enum-known-parsed c = search needs
+
+enum-known-parsed-2 : tie.Need-enum-known-parsed-2
+enum-known-parsed-2 c = search needs
+
+checked-requires : tie.Need-checked-requires
+checked-requires c κs = search needs
+
+returns : tie.Need-returns
+returns c =
+    let s = c .before .before .before .before .before .before .before in
+    let p = c .before .before .before .parse-spec in
+    step-cut _ (s .pre .2) refl (items-at _ _ .percent (s .pre .2) (s .pre .3) _ (sym (p .ensures) ∙ only-cut (p .result) (c .before .before .match .keys2) (c .before .match2 .keys2)))
+    (c .checked .ensures _ _ _ (omega arith))
+
+put-part-requires : tie.Need-put-part-requires
+put-part-requires c κs =
+    let s = c .before .before .before .before .before .before .before .before .before in
+    let q = items-at _ _ .percent (s .pre .2) (s .pre .3) _ (sym (c .before .before .before .before .before .parse-spec .ensures) ∙ c .before .before .parsed2 .given .1) in
+    (s .pre .0, omega (arith, q .onward), q .within)
+
+same-length : tie.Need-same-length
+same-length c = search needs
+
+returns-2 : tie.Need-returns-2
+returns-2 c =
+    let s = c .before .before .before .before .before .before .before .before .before .before .before .before in
+    step-echo _ _ (items-at _ _ .percent (s .pre .2) (s .pre .3) _ (sym (c .before .before .before .before .before .before .before .before .parse-spec .ensures) ∙ c .before .before .before .before .before .parsed2 .given .1)) (c .before .before .put-part .ensures _)
+
+directive-requires : tie.Need-directive-requires
+directive-requires c κs = let s = c .before .before .before .before .before .before .before .before in (s .pre .0, s .pre .1)
+
+same-length-2 : tie.Need-same-length-2
+same-length-2 c = search needs
+
+returns-3 : tie.Need-returns-3
+returns-3 c =
+    let s = c .before .before .before .before .before .before .before .before .before .before .before in
+    step-directive _ _ (items-at _ _ .percent (s .pre .2) (s .pre .3) _ (sym (c .before .before .before .before .before .before .before .parse-spec .ensures) ∙ c .before .before .before .before .before .parsed .given .1)) (c .before .before .directive .ensures)
+
+pub parsed-item-spec : {M : Type 1} → statement M
+parsed-item-spec =
+    tie.close
+    (tie.spec
+    add-parse-spec
+    parse-spec-requires
+    enum-known-parsed
+    enum-known-parsed-2
+    checked-requires
+    returns
+    put-part-requires
+    same-length
+    returns-2
+    directive-requires
+    same-length-2
+    returns-3)
