@@ -13,8 +13,8 @@ use Rattle.rules.specs.Record.{longestBuffer}
 use Rattle.rules.specs.Writing.{eventsOf}
 use Rattle.rules.specs.Format.{items, whole, limitOf}
 use Rattle.rules.specs.Size.{Stamps, SizeIs, NoneServes, Kept}
+use Rattle.rules.proofs.EventLaws.{run-done}
 use Rattle.sizing.specs.Witness.{Stamp, lengthAt, greater}
-use Rattle.sizing.proofs.Fitting.{run-done}
 use Rattle.sizing.proofs.Beside.{Beside, events-beside, run-beside}
 use Rattle.sizing.proofs.Measure.{extentOf}
 use Rattle.sizing.proofs.Growth.{Below, text-grows}

@@ -1,20 +1,17 @@
 -- The longer of the width and the decimal text.
-use mathlib.Core.Path.{_≡_, ap, _∙_, subst⁻¹}
+use mathlib.Core.Path.{_≡_, ap, _∙_}
 use native.Mathlib.Omega.{arith}
 use lib.IntN.{ℤ}
 use lib.ListN.{length}
-use mir.Syntax.{w32, w64}
-use mir.Val.{SFits}
-use mir.ValLaws.{toZ-ofZ}
 use Rattle.rules.specs.Decimal.{decimalText, zeros}
 use Rattle.rules.proofs.DecimalLaws.{length-filled}
-use Rattle.numbers.proofs.Signed.{widened, widened-fits}
+use Rattle.numbers.proofs.Signed.{widens, widened}
 use borrow.Author.Needs.{needs}
 use Rattle.printing.proofs.year_length.Statement.{statement}
 use Rattle.printing.proofs.year_length.Tie as tie
 
 cast-text-length : tie.Need-cast-text-length
-cast-text-length c = subst⁻¹ (SFits w64) (toZ-ofZ w32 _ (c .fits .year)) (widened-fits _ (c .fits .year))
+cast-text-length c = widens _ (c .fits .year)
 
 text-length-requires : tie.Need-text-length-requires
 text-length-requires c κs = search needs
