@@ -13,8 +13,8 @@ use Rattle.rules.specs.Record.{longestBuffer}
 use Rattle.rules.specs.Writing.{eventsOf}
 use Rattle.rules.specs.Format.{items, whole, limitOf}
 use Rattle.rules.specs.Size.{Stamps, SizeIs, NoneServes, Kept}
+use Rattle.rules.proofs.EventLaws.{run-done}
 use Rattle.longest.specs.Witness.{Stamp, lengthAt, greater}
-use Rattle.longest.proofs.Fitting.{run-done}
 use Rattle.longest.proofs.Beside.{Beside, events-beside, run-beside}
 use Rattle.longest.proofs.Measure.{extentOf}
 use Rattle.longest.proofs.Growth.{Below, text-grows}

@@ -5,10 +5,8 @@ use mathlib.Core.List.{List, [], _∷_}
 use mathlib.Core.Logic.{_⊎_, inl, inr}
 use Prim.Native.Nat.{ℕ, _+_, _≤_, _<_}
 use native.Mathlib.Omega.{arith}
-use lib.Dec.{leb, leb→le, nleb→lt}
-use lib.ListN.{length}
-use Rattle.rules.specs.Event.{Write, put, pad, Event, write, check, sizeOf, textOf, lengthOf, Count, at, no, roomFor, writeAt, one, tally, done, refused, outcomeOf, run, Holds}
-use Rattle.rules.proofs.EventLaws.{splitOn, tally-no, tally-fits, tally-done, tally-room, write-cases}
+use Rattle.rules.specs.Event.{Event, write, check, sizeOf, textOf, lengthOf, Count, at, no, one, tally, done, refused, outcomeOf, run, Holds}
+use Rattle.rules.proofs.EventLaws.{tally-no, tally-fits, write-cases}
 
 -- how a count ends: with the text, or with an allowed refusal
 abbrev pub Ends : (ℕ → Type 0) → Count → Type 0
@@ -19,21 +17,12 @@ abbrev pub ThreeOrFour : ℕ → Type 0
 ThreeOrFour number = (number ≡ 3) ⊎ (number ≡ 4)
 
 module _ (limit room : ℕ) where
-  -- a write within the limit fits, or is refused with 4
-  write-within : (P : Count → Type 0) (w : Write) (n : ℕ) → n + sizeOf w ≤ limit → (n + sizeOf w ≤ room → P (at (n + sizeOf w))) → (room < n + sizeOf w → P (no 4 room)) → P (writeAt limit room w n)
-  unfolding writeAt roomFor sizeOf
-  write-within P (put bytes) n l f g = splitOn P (leb (n + length bytes) room) (λ t. f (leb→le _ _ t)) (λ t. g (nleb→lt _ _ t))
-  write-within P (pad byte count) n l f g =
-      splitOn P (leb (n + count) limit)
-      (λ t. splitOn P (leb (n + count) room) (λ t′. f (leb→le _ _ t′)) (λ t′. g (nleb→lt _ _ t′)))
-      (λ t. absurd (omega (arith, nleb→lt)))
-
   tally-short : (es : List Event) (n : ℕ) → Holds es → n ≤ room → room < n + lengthOf es → n + lengthOf es ≤ limit → tally limit room es (at n) ≡ no 4 room
   unfolding tally one lengthOf Holds
   tally-short [] n h r s l = absurd (omega arith)
   tally-short (write w ∷ es) n h r s l =
-      write-within (λ c. tally limit room es c ≡ no 4 room) w n (omega arith)
-      (λ fit. tally-short es (n + sizeOf w) h fit (omega arith) (omega arith)) (λ short. tally-no limit room es 4 room)
+      write-cases limit room (λ c. tally limit room es c ≡ no 4 room) w n
+      (λ fit. tally-short es (n + sizeOf w) h fit (omega arith) (omega arith)) (λ short. tally-no limit room es 4 room) (λ far. absurd (omega arith))
   tally-short (check true number ∷ es) n h r s l = tally-short es n (h .1) r s l
   tally-short (check false number ∷ es) n h r s l = let z : _≡_ {A = ℕ} 0 1 = cc (h .0) in absurd (omega arith)
 
@@ -45,7 +34,7 @@ module _ (limit room : ℕ) where
   tally-ends [] n h = tt
   tally-ends (write w ∷ es) n h =
       write-cases limit room (λ c. Ends ThreeOrFour (tally limit room es c)) w n (λ fit. tally-ends es (n + sizeOf w) h)
-      (ends-no ThreeOrFour es 4 room (inr refl)) (ends-no ThreeOrFour es 3 n (inl refl))
+      (λ short. ends-no ThreeOrFour es 4 room (inr refl)) (λ far. ends-no ThreeOrFour es 3 n (inl refl))
   tally-ends (check true number ∷ es) n h = tally-ends es n (h .1)
   tally-ends (check false number ∷ es) n h = let z : _≡_ {A = ℕ} 0 1 = cc (h .0) in absurd (omega arith)
 
@@ -57,16 +46,6 @@ module _ (limit room : ℕ) where
   pub run-short : (es : List Event) → Holds es → room < lengthOf es → lengthOf es ≤ limit → run limit room es ≡ refused 4
   unfolding run
   run-short es h s l = rw (tally-short es 0 h (omega arith) (omega arith) (omega arith))
-
-  pub run-done : (es : List Event) (text : List ℕ) → run limit room es ≡ done text → Holds es × (lengthOf es ≤ room)
-  unfolding run
-  run-done es text e = go (tally limit room es (at 0)) refl e
-    where
-      go : (c : Count) → tally limit room es (at 0) ≡ c → outcomeOf c (textOf es) ≡ done text → Holds es × (lengthOf es ≤ room)
-      go (at n) p q =
-          let d = tally-done limit room es 0 n p in
-          (d .0, omega (arith, tally-room limit room es 0 n (omega arith) p))
-      go (no number n) p q = let z : _≡_ {A = ℕ} 0 1 = cc in absurd (omega arith)
 
   pub run-unchecked : (es : List Event) → Holds es → run limit room es ≡ refused 1 → ⊥
   unfolding run

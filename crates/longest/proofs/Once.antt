@@ -15,8 +15,8 @@ use Rattle.rules.specs.Refusal.{Report}
 use Rattle.rules.specs.Event.{done, Holds}
 use Rattle.rules.specs.Format.{items, whole, limitOf, formatEvents, formatted}
 use Rattle.rules.specs.Size.{Stamps, SizeIs, NoneServes, Kept, Sizing, too-long, ends-inside, no-buffer, needs}
+use Rattle.rules.proofs.EventLaws.{run-done}
 use Rattle.longest.specs.Witness.{needing}
-use Rattle.longest.proofs.Fitting.{run-done}
 use Rattle.longest.proofs.Members.{Sets, member-unchecked}
 
 -- a set whose needy members are among those that another size serves has no greater size

@@ -84,7 +84,7 @@ pub fn number(
 
 // `put_decimal`, with two and four digits at once where the number has no more.
 fn put_quick(out: &mut [u8], at: usize, room: usize, v: i64, width: usize, zeros: bool) -> usize
-    requires { ⌜ Room (now out) room × (width ≤ 65535) ⌝ }
+    requires { ⌜ Room (now out) room ⌝ }
     ensures { λ r. ⌜ ((limit : ℕ) → Ran limit room (event.write (event.put (filled (fillWith zeros) width v)) ∷ []) (now (out .entry)) at (now (out .exit)) r) ⌝ }
 {
     if zeros && width == 2 && 0 <= v && v < 100 {

@@ -20,8 +20,12 @@ pub cast-fits : (w : Width) {z : ℤ} {n : ℕ} → z ≡ pos n → Fits w n →
 cast-fits w e f = subst⁻¹ (λ (z : ℤ). T (nonNeg z) × Fits w (natAbs z)) e (tt, f)
 
 -- an i32 as an i64
-pub widened-fits : (z : ℤ) → SFits w32 z → SFits w64 z
+widened-fits : (z : ℤ) → SFits w32 z → SFits w64 z
 widened-fits z f = record { sfits = omega (arith, f .sfits) }
+
+-- what the cast of an i32 to an i64 asks
+pub widens : (z : ℤ) → SFits w32 z → SFits w64 (toZ w32 (ofZ w32 z))
+widens z f = subst⁻¹ (SFits w64) (toZ-ofZ w32 z f) (widened-fits z f)
 
 pub widened : (z : ℤ) → SFits w32 z → toZ w64 (ofZ w64 (toZ w32 (ofZ w32 z))) ≡ z
 widened z f = through w64 (toZ-ofZ w32 z f) (widened-fits z f)

@@ -1,6 +1,6 @@
 -- The quick way: a sign, two digits of hours and the rest in one write are the sign, the pad, the hours and the rest.
 use mathlib.Core.Path.{_≡_, refl, sym, ap, _∙_}
-use mathlib.Core.Bool.{Bool, true, false, not, cond, _&&_, _||_}
+use mathlib.Core.Bool.{Bool, true, false, not, cond, _&&_, _||_, false≢true}
 use mathlib.Core.List.{List, [], _∷_, _++_, append-assoc, map}
 use Prim.Native.Nat.{ℕ, _+_, _-_, _≤_, _<_}
 use native.Mathlib.Decide.{decLt}
@@ -21,12 +21,9 @@ use Rattle.offset_directive.specs.Short.{isShort}
 
 -- ## What the test tells
 
-never : false ≡ true → ⊥
-never e = let z : _≡_ {A = ℕ} 0 1 = cc in omega arith
-
 told : (a b c : Bool) → (not (a || b) && c) ≡ true → (a ≡ false) × (b ≡ false) × (c ≡ true)
-told true b c e = absurd (never e)
-told false true c e = absurd (never e)
+told true b c e = absurd (false≢true e)
+told false true c e = absurd (false≢true e)
 told false false c e = (refl, refl, e)
 
 pub record Short (width length : ℕ) (spaces negative : Bool) (hours : ℕ) : Type 0 where

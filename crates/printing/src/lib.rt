@@ -106,7 +106,7 @@ pub fn put_decimal(
     width: usize,
     zeros: bool,
 ) -> usize
-    requires { ⌜ Room (now out) room × (width ≤ 65535) ⌝ }
+    requires { ⌜ Room (now out) room ⌝ }
     ensures { λ r. ⌜ ((limit : ℕ) → Ran limit room (event.write (event.put (filled (fillWith zeros) width v)) ∷ []) (now (out .entry)) at (now (out .exit)) r) ⌝ }
 {
     if !zeros {
@@ -152,7 +152,6 @@ pub fn put_year(out: &mut [u8], at: usize, room: usize, year: i32) -> usize
 
 // How many bytes a year takes that is written with zeros to at least so many.
 pub fn year_length(year: i32, least: usize) -> usize
-    requires { ⌜ least ≤ 65535 ⌝ }
     ensures { λ r. ⌜ r ≡ length (filled zeros least year) ⌝ }
 {
     let length = numbers::text_length(year);

@@ -1,14 +1,13 @@
 -- The outcomes of a turn, each by the tests that lead to it, and what the parser makes of them at a position.
 use mathlib.Core.Path.{_≡_, refl, sym, ap, _∙_}
-use mathlib.Core.Bool.{Bool, true, false, cond, _&&_}
+use mathlib.Core.Bool.{Bool, true, false, cond, false≢true}
 use mathlib.Core.List.{List, _∷_}
 use Prim.Native.Nat.{ℕ, _+_, _-_, _≤_, _<_, min}
 use native.Mathlib.Numerals.{add-one}
 use native.Mathlib.Omega.{arith}
-use lib.Dec.{leb}
 use lib.ListN.{length, getD, drop, drop-of-length-le}
 use lib.Seq.{drop-cons}
-use borrow.Author.Tests.{eq-eqb, ne-eqb, leb-true, le-leb, lt-leb}
+use borrow.Author.Tests.{eq-eqb, ne-eqb, le-leb, lt-leb}
 use Rattle.rules.specs.declared.Options.{Options}
 use Rattle.rules.specs.declared.Width.{Width}
 use Rattle.rules.specs.declared.Width.the-variants.{Unset, Of}
@@ -23,6 +22,7 @@ use Rattle.rules.specs.declared.Turn.the-variants.{More, Unread}
 use Rattle.rules.specs.declared.Parsed.the-variants.{Echo, Cut}
 use Rattle.rules.specs.Reading.{onFlag, isDigit, digitOf, widthWith, tooWide, member, modified, specOf, onEntry, onLetter, onColons, turn, open?}
 use Rattle.rules.specs.Format.{parseFrom}
+use Rattle.rules.proofs.RecordLaws.{ends}
 use Rattle.reading.specs.declared.FlagStep.{FlagStep}
 use Rattle.reading.specs.declared.FlagStep.the-variants.{Flag, NoFlag}
 use Rattle.reading.specs.Stages.{flagTurn, entered, colonEntry, turned}
@@ -55,15 +55,7 @@ module _ (format : List ℕ) (at : ℕ) where
       go Missing = refl
 
 pub never {ℓ} : {A : Type ℓ} → false ≡ true → A
-never e = let z : _≡_ {A = ℕ} 0 1 = cc in absurd (omega arith)
-
-pub digit : (b : ℕ) → isDigit b ≡ true → (48 ≤ b) × (b ≤ 57)
-digit b h = go (leb 48 b) (leb b 57) refl refl h
-  where
-    go : (low high : Bool) → leb 48 b ≡ low → leb b 57 ≡ high → low && high ≡ true → (48 ≤ b) × (b ≤ 57)
-    go true true l k q = (leb-true 48 b l, leb-true b 57 k)
-    go true false l k q = never q
-    go false high l k q = never q
+never e = absurd (false≢true e)
 
 entry-cond : (o : Options) (w : Width) (skipped t : Bool) (x y : Entry) → onEntry o w skipped (cond t x y) ≡ cond t (onEntry o w skipped x) (onEntry o w skipped y)
 entry-cond o w skipped true x y = refl
@@ -82,7 +74,7 @@ module _ (o : Options) (b : ℕ) where
       pub flags-digit : isDigit b ≡ true → (v : ℕ) → v ≡ widthWith 0 b → More (InWidth o v) ≡ turn (InFlags o) b
       unfolding turn
       flags-digit d v k =
-          let h = digit b d in
+          let h = ends 48 57 b d in
           let q : v ≡ b - 48 = k ∙ omega arith in
           rw (d, q) (flags-other (More (InWidth o (digitOf b))))
 

@@ -146,7 +146,7 @@ places-padded k n h =
     let e : k ≡ k - digitCount n + digitCount n = omega arith in
     ap (λ (m : ℕ). places m n) e ∙ places-more (k - digitCount n) (digitCount n) n (below-count n) ∙ ap (λ (l : List ℕ). replicate (k - digitCount n) 48 ++ l) (sym (digits-places n))
 
-pub two-digits : (n : ℕ) → n < 100 → two n ≡ (48 + n / 10) ∷ (48 + n % 10) ∷ []
+two-digits : (n : ℕ) → n < 100 → two n ≡ (48 + n / 10) ∷ (48 + n % 10) ∷ []
 unfolding places
 two-digits n h =
     let e : n / 10 % 10 ≡ n / 10 = omega arith in

@@ -18,7 +18,7 @@ use Rattle.rules.specs.Writing.{valueOf}
 use Rattle.rules.specs.Format.{items, limitOf, formatEvents, formatted}
 use Rattle.rules.proofs.WeekLaws.{iso-exists}
 use Rattle.rules.proofs.FormatLaws.{Among, Numbered, numbered-items, CountOk, tally-ok}
-use Rattle.rules.proofs.EventLaws.{length-text, tally-done, tally-room}
+use Rattle.rules.proofs.EventLaws.{length-text, run-done}
 
 -- ## A text or a refusal of the table
 
@@ -57,22 +57,11 @@ refusal-changes-nothing number buffer = (refl, refl)
 
 -- a text fits the buffer
 pub done-fits : (format zone : List ℕ) (r : Record) (room : ℕ) (text : List ℕ) → formatted format zone r room ≡ done text → length text ≤ room
-unfolding formatted run
-done-fits format zone r room text e = go (tally limit room es (at 0)) refl e
-  where
-    limit : ℕ
-    limit = limitOf (length format)
-
-    es : List Event
-    es = formatEvents format zone r room
-
-    go : (c : Count) → tally limit room es (at 0) ≡ c → outcomeOf c (textOf es) ≡ done text → length text ≤ room
-    go (at n) q h =
-        let s : textOf es ≡ text = cc in
-        omega (arith, tally-room limit room es 0 n (omega arith) q, tally-done limit room es 0 n q .1, length-text es, ap length s)
-    go (no number n) q h =
-        let z : _≡_ {A = ℕ} 0 1 = cc in
-        absurd (omega arith)
+unfolding formatted
+done-fits format zone r room text e =
+    let es = formatEvents format zone r room in
+    let d = run-done (limitOf (length format)) room es text e in
+    omega (arith, d .1, length-text es, ap length (d .2))
 
 -- "success changes only the bytes counted": the buffer keeps its length, and each byte from the count on
 pub buffer-keeps-length : (text buffer : List ℕ) → length text ≤ length buffer → length (bufferAfter (done text) buffer) ≡ length buffer

@@ -2,11 +2,11 @@
 use mathlib.Core.Path.{_≡_, refl, ap, _∙_}
 use mathlib.Core.Bool.{Bool, true, false, not, cond}
 use mathlib.Core.List.{List, [], _∷_, _++_, append-assoc, map}
-use Prim.Native.Nat.{ℕ, _+_, _≤_}
+use Prim.Native.Nat.{ℕ, _+_, _≤_, _<_}
 use native.Mathlib.Omega.{arith}
 use lib.Dec.{T, leb, leb→le, nleb→lt}
 use lib.ListN.{length, length-append, length-replicate}
-use Rattle.rules.specs.Event.{Write, put, pad, Event, write, check, bytesOf, sizeOf, textOf, lengthOf, Count, at, no, roomFor, writeAt, one, tally, Holds}
+use Rattle.rules.specs.Event.{Write, put, pad, Event, write, check, bytesOf, sizeOf, textOf, lengthOf, Count, at, no, roomFor, writeAt, one, tally, done, outcomeOf, run, Holds}
 
 -- by the two outcomes of a test
 pub splitOn : {A : Type 0} (P : A → Type 0) (b : Bool) {x y : A} → (T b → P x) → (T (not b) → P y) → P (cond b x y)
@@ -75,21 +75,16 @@ module _ (limit room : ℕ) where
 
   -- ## A write that fits, and one that fails
 
-  pub write-fits : (w : Write) (n : ℕ) → n + sizeOf w ≤ room → n + sizeOf w ≤ limit → writeAt limit room w n ≡ at (n + sizeOf w)
-  unfolding writeAt roomFor sizeOf
-  write-fits (put bytes) n r l =
-      splitOn (λ c. c ≡ at (n + length bytes)) (leb (n + length bytes) room) (λ t. refl) (λ t. absurd (omega (arith, nleb→lt)))
-  write-fits (pad byte count) n r l =
-      splitOn (λ c. c ≡ at (n + count)) (leb (n + count) limit)
-      (λ t. splitOn (λ c. c ≡ at (n + count)) (leb (n + count) room) (λ t′. refl) (λ t′. absurd (omega (arith, nleb→lt))))
-      (λ t. absurd (omega (arith, nleb→lt)))
-
   -- whatever follows from a write that passes and from each of its two refusals follows from the write
-  pub write-cases : (P : Count → Type 0) (w : Write) (n : ℕ) → (n + sizeOf w ≤ room → P (at (n + sizeOf w))) → P (no 4 room) → P (no 3 n) → P (writeAt limit room w n)
+  pub write-cases : (P : Count → Type 0) (w : Write) (n : ℕ) → (n + sizeOf w ≤ room → P (at (n + sizeOf w))) → (room < n + sizeOf w → P (no 4 room)) → (limit < n + sizeOf w → P (no 3 n)) → P (writeAt limit room w n)
   unfolding writeAt roomFor sizeOf
-  write-cases P (put bytes) n f g h = splitOn P (leb (n + length bytes) room) (λ t. f (leb→le _ _ t)) (λ t. g)
+  write-cases P (put bytes) n f g h = splitOn P (leb (n + length bytes) room) (λ t. f (leb→le _ _ t)) (λ t. g (nleb→lt _ _ t))
   write-cases P (pad byte count) n f g h =
-      splitOn P (leb (n + count) limit) (λ t. splitOn P (leb (n + count) room) (λ t′. f (leb→le _ _ t′)) (λ t′. g)) (λ t. h)
+      splitOn P (leb (n + count) limit) (λ t. splitOn P (leb (n + count) room) (λ t′. f (leb→le _ _ t′)) (λ t′. g (nleb→lt _ _ t′))) (λ t. h (nleb→lt _ _ t))
+
+  pub write-fits : (w : Write) (n : ℕ) → n + sizeOf w ≤ room → n + sizeOf w ≤ limit → writeAt limit room w n ≡ at (n + sizeOf w)
+  write-fits w n r l =
+      write-cases (λ c. c ≡ at (n + sizeOf w)) w n (λ fit. refl) (λ short. absurd (omega arith)) (λ far. absurd (omega arith))
 
   -- ## A list that fits, and a list that came to its end
 
@@ -110,7 +105,7 @@ module _ (limit room : ℕ) where
   tally-done (write w ∷ es) n m e =
       write-cases (λ c. tally limit room es c ≡ at m → Holds es × (m ≡ n + (sizeOf w + lengthOf es))) w n
       (λ fit q. let ih = tally-done es (n + sizeOf w) m q in (ih .0, omega arith))
-      (λ q. absurd (refused-at es 4 room m q)) (λ q. absurd (refused-at es 3 n m q)) e
+      (λ short q. absurd (refused-at es 4 room m q)) (λ far q. absurd (refused-at es 3 n m q)) e
   tally-done (check true number ∷ es) n m e = let ih = tally-done es n m e in ((refl, ih .0), ih .1)
   tally-done (check false number ∷ es) n m e = absurd (refused-at es number n m e)
 
@@ -121,6 +116,15 @@ module _ (limit room : ℕ) where
   tally-room (write w ∷ es) n m h e =
       write-cases (λ c. tally limit room es c ≡ at m → m ≤ room) w n
       (λ fit q. tally-room es (n + sizeOf w) m fit q)
-      (λ q. absurd (refused-at es 4 room m q)) (λ q. absurd (refused-at es 3 n m q)) e
+      (λ short q. absurd (refused-at es 4 room m q)) (λ far q. absurd (refused-at es 3 n m q)) e
   tally-room (check true number ∷ es) n m h e = tally-room es n m h e
   tally-room (check false number ∷ es) n m h e = absurd (refused-at es number n m e)
+
+  -- an outcome that is a text
+  pub run-done : (es : List Event) (text : List ℕ) → run limit room es ≡ done text → Holds es × (lengthOf es ≤ room) × (text ≡ textOf es)
+  unfolding run
+  run-done es text e = go (tally limit room es (at 0)) refl e
+    where
+      go : (c : Count) → tally limit room es (at 0) ≡ c → outcomeOf c (textOf es) ≡ done text → Holds es × (lengthOf es ≤ room) × (text ≡ textOf es)
+      go (at n) p q = let d = tally-done es 0 n p in (d .0, omega (arith, tally-room es 0 n (omega arith) p), cc)
+      go (no number n) p q = let z : _≡_ {A = ℕ} 0 1 = cc in absurd (omega arith)

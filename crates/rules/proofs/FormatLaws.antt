@@ -87,7 +87,7 @@ module _ (most : ℕ) (enough : 4 ≤ most) where
   unfolding tally one Numbered
   tally-ok limit room [] c h k = k
   tally-ok limit room (write w ∷ es) (at n) h k =
-      tally-ok limit room es (writeAt limit room w n) h (write-cases limit room CountOk w n (λ f. tt) (lit≤ tt, omega arith) (lit≤ tt, omega arith))
+      tally-ok limit room es (writeAt limit room w n) h (write-cases limit room CountOk w n (λ fit. tt) (λ short. (lit≤ tt, omega arith)) (λ far. (lit≤ tt, omega arith)))
   tally-ok limit room (write w ∷ es) (no number n) h k = tally-ok limit room es (no number n) h k
   tally-ok limit room (check true number ∷ es) (at n) h k = tally-ok limit room es (at n) (h .1) k
   tally-ok limit room (check false number ∷ es) (at n) h k = tally-ok limit room es (no number n) (h .1) (h .0)

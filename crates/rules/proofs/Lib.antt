@@ -13,5 +13,4 @@ pub mod Tables
 pub mod Walk
 pub mod WeekLaws
 pub mod WidthLaws
-pub mod WritingLaws
 pub mod YearLaws

@@ -18,7 +18,7 @@ true-of : (b : Bool) → T b → b ≡ true
 true-of true h = refl
 true-of false h = absurd h
 
-ends : (least most n : ℕ) → within least most n ≡ true → (least ≤ n) × (n ≤ most)
+pub ends : (least most n : ℕ) → within least most n ≡ true → (least ≤ n) × (n ≤ most)
 ends least most n h = let k = both _ _ h in (leb-true _ _ (k .0), leb-true _ _ (k .1))
 
 -- ## One field

@@ -138,8 +138,8 @@ pub fn put_two(out: &mut [u8], at: usize, room: usize, v: u8) -> usize
     ensures { λ r. ⌜ ((limit : ℕ) → Ran limit room (event.write (event.put (places 2 v)) ∷ []) (now (out .entry)) at (now (out .exit)) r) ⌝ }
 {
     if fits(at, 2, out.len()) {
-        out[at] = b'0' + v / 10;
-        out[at + 1] = b'0' + v % 10;
+        out[at] = numbers::tens(v);
+        out[at + 1] = numbers::ones(v);
         return at + 2;
     }
     missed(at, 2, room)
@@ -147,7 +147,7 @@ pub fn put_two(out: &mut [u8], at: usize, room: usize, v: u8) -> usize
 
 // The last `count` decimal digits of v, with zeros in front where v has fewer.
 pub fn put_places(out: &mut [u8], at: usize, room: usize, count: usize, v: u64) -> usize
-    requires { ⌜ Room (now out) room × (count ≤ 20) ⌝ }
+    requires { ⌜ Room (now out) room ⌝ }
     ensures { λ r. ⌜ ((limit : ℕ) → Ran limit room (event.write (event.put (places count v)) ∷ []) (now (out .entry)) at (now (out .exit)) r) ⌝ }
 {
     if fits(at, count, out.len()) {

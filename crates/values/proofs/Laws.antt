@@ -5,9 +5,6 @@ use mathlib.Core.List.{List, [], _∷_}
 use Prim.Native.Nat.{ℕ, _≤_}
 use native.Mathlib.Omega.{arith}
 use lib.IntN.{ℤ}
-use mir.Syntax.{w32, w64}
-use mir.Val.{SFits, toZ, ofZ}
-use mir.ValLaws.{toZ-ofZ}
 use borrow.Author.Tests.{eq-eqb, ne-eqb}
 use Rattle.rules.specs.declared.Number.{Number}
 use Rattle.rules.specs.declared.Padding.{Padding}
@@ -17,7 +14,6 @@ use Rattle.rules.specs.Decimal.{Fill}
 use Rattle.rules.specs.Writing.{orIfZero, valueOf, defaultWidth, fillOf, numberFields}
 use Rattle.rules.proofs.RecordLaws.{ranges-of}
 use Rattle.fields.proofs.Laws.{alone}
-use Rattle.numbers.proofs.Signed.{widened-fits}
 use Rattle.values.specs.declared.Value.{Value}
 use Rattle.values.specs.Value.{fillBy, ValueIs}
 use Rattle.values.specs.Inner.{Valued, InWeek, Weekly}
@@ -43,10 +39,6 @@ module _ (r : Record) {ok : Bool} (checked : (zone : List ℕ) → ok ≡ allOk 
   not-in-week h w = let z : _≡_ {A = ℕ} 0 1 = cc (checked [], w []) in absurd (omega arith)
 
 -- ## An answer
-
--- what the cast of an i32 to an i64 asks
-pub widens : (z : ℤ) → SFits w32 z → SFits w64 (toZ w32 (ofZ w32 z))
-widens z f = subst⁻¹ (SFits w64) (toZ-ofZ w32 z f) (widened-fits z f)
 
 -- a number that is known to be another
 pub renumbered : {ok : Bool} {y z : ℤ} {width : ℕ} {space : Bool} {v : Value} → y ≡ z → Valued ok y width space v → Valued ok z width space v

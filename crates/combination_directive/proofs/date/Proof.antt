@@ -11,8 +11,7 @@ use Rattle.rules.specs.Writing.{combinationFields}
 use Rattle.rules.proofs.FloorLaws.{mod-below}
 use Rattle.rules.proofs.DecimalLaws.{two-is}
 use Rattle.rules.proofs.RecordLaws.{Each}
-use Rattle.numbers.proofs.Signed.{widened}
-use Rattle.values.proofs.Laws.{widens}
+use Rattle.numbers.proofs.Signed.{widens, widened}
 use Rattle.combination_directive.proofs.TextLaws.{date-text}
 use Rattle.combination_directive.proofs.CombinedLaws.{in-range, failed, written}
 use borrow.Author.Needs.{needs}

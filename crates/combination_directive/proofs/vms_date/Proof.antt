@@ -7,8 +7,7 @@ use Rattle.rules.specs.Record.{month, day}
 use Rattle.rules.specs.Writing.{vmsYear, dayText, combinationFields}
 use Rattle.rules.proofs.RecordLaws.{Each}
 use Rattle.text.proofs.RanLaws.{_then_, joined}
-use Rattle.numbers.proofs.Signed.{widened}
-use Rattle.values.proofs.Laws.{widens}
+use Rattle.numbers.proofs.Signed.{widens, widened}
 use Rattle.combination_directive.proofs.TextLaws.{spaced-pair, vms-date-text}
 use Rattle.combination_directive.proofs.CombinedLaws.{in-range, failed, written}
 use borrow.Author.Needs.{needs}

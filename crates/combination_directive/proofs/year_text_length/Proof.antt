@@ -1,7 +1,6 @@
 -- The width goes by the year's sign.
 use mathlib.Core.Path.{_≡_, ap, ap₂, _∙_}
 use Prim.Native.Nat.{ℕ}
-use native.Mathlib.Omega.{arith}
 use lib.IntN.{ℤ}
 use lib.ListN.{length}
 use mir.Syntax.{w32}
@@ -9,9 +8,7 @@ use mir.ValLaws.{toZ-ofZ}
 use borrow.Author.Needs.{needs}
 use Rattle.rules.specs.Decimal.{zeros, filled}
 use Rattle.rules.specs.Writing.{yearWidth}
-use Rattle.rules.proofs.WidthLaws.{year-narrow}
-use Rattle.numbers.proofs.Signed.{widened}
-use Rattle.values.proofs.Laws.{widens}
+use Rattle.numbers.proofs.Signed.{widens, widened}
 use Rattle.combination_directive.proofs.year_text_length.Statement.{statement}
 use Rattle.combination_directive.proofs.year_text_length.Tie as tie
 
@@ -25,7 +22,7 @@ width-is : (c : tie.After-year-width) → c .year-width .result ≡ yearWidth (c
 width-is c = c .year-width .ensures ∙ ap yearWidth (widened _ (c .before .fits .year))
 
 year-length-requires : tie.Need-year-length-requires
-year-length-requires c κs = omega (arith, width-is c, year-narrow (c .before .args .year))
+year-length-requires c κs = search needs
 
 returns : tie.Need-returns
 returns c =

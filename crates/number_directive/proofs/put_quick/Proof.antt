@@ -19,7 +19,7 @@ cast-put-two : tie.Need-cast-put-two
 cast-put-two c = cast-few 2 _ (two-digits (c .before)) w8 (lit≤ tt)
 
 put-two-requires : tie.Need-put-two-requires
-put-two-requires c κs = (c .before .before .before .before .before .before .pre .0, few-below 2 _ (two-digits (c .before)))
+put-two-requires c κs = (c .before .before .before .before .before .before .pre, few-below 2 _ (two-digits (c .before)))
 
 same-length : tie.Need-same-length
 same-length c = search needs
@@ -31,7 +31,7 @@ cast-put-four : tie.Need-cast-put-four
 cast-put-four c = cast-few 4 _ (four-digits (c .before)) w32 (lit≤ tt)
 
 put-four-requires : tie.Need-put-four-requires
-put-four-requires c κs = (c .before .before .before .before .before .before .before .pre .0, few-below 4 _ (four-digits (c .before)))
+put-four-requires c κs = (c .before .before .before .before .before .before .before .pre, few-below 4 _ (four-digits (c .before)))
 
 same-length-2 : tie.Need-same-length-2
 same-length-2 c = search needs

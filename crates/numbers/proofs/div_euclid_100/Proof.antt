@@ -4,17 +4,17 @@ use Prim.Native.Nat.{ℕ, _/_, _<_, _^_}
 use native.Mathlib.Omega.{arith}
 use lib.IntN.{ℤ, pos, negsuc}
 use lib.Signed.{mag}
-use mir.Syntax.{w32, w64}
+use mir.Syntax.{w32}
 use mir.Val.{SFits}
-use mir.ValLaws.{toZ-ofZ, toZ-pos}
+use mir.ValLaws.{toZ-pos}
 use Rattle.rules.specs.Decimal.{floorDiv}
-use Rattle.numbers.proofs.Signed.{through, widened, widened-fits, is-neg, is-pos, flip-cast}
+use Rattle.numbers.proofs.Signed.{through, widens, widened, is-neg, is-pos, flip-cast}
 use borrow.Author.Needs.{needs}
 use Rattle.numbers.proofs.div_euclid_100.Statement.{statement}
 use Rattle.numbers.proofs.div_euclid_100.Tie as tie
 
 cast-magnitude : tie.Need-cast-magnitude
-cast-magnitude c = subst⁻¹ (SFits w64) (toZ-ofZ w32 _ (c .fits .y)) (widened-fits _ (c .fits .y))
+cast-magnitude c = widens _ (c .fits .y)
 
 magnitude-requires : tie.Need-magnitude-requires
 magnitude-requires c κs = search needs

@@ -1,17 +1,14 @@
 -- The absolute value of the same number as an i64.
-use mathlib.Core.Path.{_≡_, ap, _∙_, subst⁻¹}
+use mathlib.Core.Path.{_≡_, ap, _∙_}
 use native.Mathlib.Omega.{arith}
 use lib.IntN.{natAbs}
-use mir.Syntax.{w32, w64}
-use mir.Val.{SFits}
-use mir.ValLaws.{toZ-ofZ}
-use Rattle.numbers.proofs.Signed.{widened, widened-fits, abs-le}
+use Rattle.numbers.proofs.Signed.{widens, widened, abs-le}
 use borrow.Author.Needs.{needs}
 use Rattle.numbers.proofs.unsigned_abs.Statement.{statement}
 use Rattle.numbers.proofs.unsigned_abs.Tie as tie
 
 cast-unsigned-abs64 : tie.Need-cast-unsigned-abs64
-cast-unsigned-abs64 c = subst⁻¹ (SFits w64) (toZ-ofZ w32 _ (c .fits .x)) (widened-fits _ (c .fits .x))
+cast-unsigned-abs64 c = widens _ (c .fits .x)
 
 unsigned-abs64-requires : tie.Need-unsigned-abs64-requires
 unsigned-abs64-requires c κs = search needs

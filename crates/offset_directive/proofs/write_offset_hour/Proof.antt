@@ -1,7 +1,5 @@
 -- The sign with its pad, then the hours.
-use native.Mathlib.Omega.{arith}
 use Rattle.rules.proofs.DecimalLaws.{digits-counted}
-use Rattle.numbers.proofs.CountLaws.{count-64}
 use Rattle.text.proofs.RanLaws.{_then_, said, room-kept}
 use borrow.Author.Needs.{needs}
 use Rattle.offset_directive.proofs.write_offset_hour.Statement.{statement}
@@ -23,10 +21,7 @@ digit-count-requires : tie.Need-digit-count-requires
 digit-count-requires c κs = search needs
 
 put-places-requires : tie.Need-put-places-requires
-put-places-requires c κs = (
-  room-kept (c .before .before .before .before .before .write-sign-and-pad .ensures) (c .before .before .before .before .before .before .before .before .before .before .pre .0),
-  omega (arith, c .digit-count .ensures, count-64 (c .before .before .before .before .before .before .before .before .before .before .args .parts .hours) (omega arith)),
-)
+put-places-requires c κs = room-kept (c .before .before .before .before .before .write-sign-and-pad .ensures) (c .before .before .before .before .before .before .before .before .before .before .pre .0)
 
 same-length : tie.Need-same-length
 same-length c = search needs

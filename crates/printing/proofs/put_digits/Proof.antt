@@ -1,7 +1,4 @@
 -- The digits are as many places; what is in front is a run, or nothing.
-use Prim.Native.Nat.{_≤_}
-use native.Mathlib.Omega.{arith}
-use Rattle.numbers.proofs.CountLaws.{count-64}
 use Rattle.text.proofs.RanLaws.{_then_, joined, said, room-kept}
 use Rattle.printing.proofs.FilledLaws.{digits-alone, digits-behind}
 use borrow.Author.Needs.{needs}
@@ -11,11 +8,8 @@ use Rattle.printing.proofs.put_digits.Tie as tie
 digit-count-requires : tie.Need-digit-count-requires
 digit-count-requires c κs = search needs
 
-count-small : (c : tie.After-digit-count) → c .digit-count .result ≤ 20
-count-small c = omega (arith, c .digit-count .ensures, count-64 (c .before .before .args .v) (omega arith))
-
 put-places-requires : tie.Need-put-places-requires
-put-places-requires c κs = (c .before .before .before .before .pre, omega (arith, count-small (c .before .before)))
+put-places-requires c κs = search needs
 
 same-length : tie.Need-same-length
 same-length c = search needs
@@ -33,9 +27,7 @@ put-run-requires : tie.Need-put-run-requires
 put-run-requires c κs = search needs
 
 put-places-requires-2 : tie.Need-put-places-requires-2
-put-places-requires-2 c κs =
-    let c6 = c .before .before .before .before .before .before in
-    (room-kept (c .before .before .before .put-run .ensures 0) (c6 .before .before .pre), omega (arith, count-small c6))
+put-places-requires-2 c κs = room-kept (c .before .before .before .put-run .ensures 0) (c .before .before .before .before .before .before .before .before .pre)
 
 same-length-2 : tie.Need-same-length-2
 same-length-2 c = search needs

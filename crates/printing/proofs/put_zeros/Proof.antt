@@ -1,6 +1,5 @@
 -- A number below 10 ^ width is its last places.
 use native.Mathlib.Omega.{arith}
-use borrow.Author.Tests.{ltb-false}
 use Rattle.text.proofs.RanLaws.{said}
 use Rattle.printing.proofs.FilledLaws.{places-filled}
 use borrow.Author.Needs.{needs}
@@ -23,7 +22,7 @@ cast-if3 : tie.Need-cast-if3
 cast-if3 c = search needs
 
 put-places-requires : tie.Need-put-places-requires
-put-places-requires c κs = (c .before .before .before .before .before .before .pre, omega (arith, ltb-false))
+put-places-requires c κs = search needs
 
 same-length-2 : tie.Need-same-length-2
 same-length-2 c = search needs

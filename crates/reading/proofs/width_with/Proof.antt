@@ -1,6 +1,6 @@
 -- A width that is too wide stays so; of any other the sum fits.
 use borrow.Author.Needs.{needs}
-use Rattle.reading.proofs.Laws.{digit}
+use Rattle.rules.proofs.RecordLaws.{ends}
 use Rattle.reading.proofs.width_with.Statement.{statement}
 use Rattle.reading.proofs.width_with.Tie as tie
 
@@ -11,7 +11,7 @@ mul-longer : tie.Need-mul-longer
 mul-longer c = search needs
 
 sub-longer : tie.Need-sub-longer
-sub-longer c = digit _ (c .before .pre) .0
+sub-longer c = ends 48 57 _ (c .before .pre) .0
 
 cast-longer : tie.Need-cast-longer
 cast-longer c = search needs

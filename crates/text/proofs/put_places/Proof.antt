@@ -29,7 +29,7 @@ returns c =
     let a = c .before .before .before .before .before .before .before .args in
     let k = fits-yes _ _ (c .before .before .before .before .before .fits2 .ensures) (c .before .before .before .before .if1 .taken) in
     let e = length-places (a .count) (a .v) in
-    λ limit. placed (overlay-between _ _ _ _ e k (c .before .before .write-places .ensures)) (ap (λ (n : ℕ). a .at + n) (sym e)) k (c .before .before .before .before .before .before .before .pre .0)
+    λ limit. placed (overlay-between _ _ _ _ e k (c .before .before .write-places .ensures)) (ap (λ (n : ℕ). a .at + n) (sym e)) k (c .before .before .before .before .before .before .before .pre)
 
 missed-requires : tie.Need-missed-requires
 missed-requires c κs = search needs
@@ -38,7 +38,7 @@ returns-2 : tie.Need-returns-2
 returns-2 c =
     let a = c .before .before .before .before .args in
     let k = fits-no _ _ (c .before .before .fits2 .ensures) (c .before .if1 .left) in
-    λ limit. c .missed .ensures limit (places (a .count) (a .v)) _ (length-places (a .count) (a .v)) (c .before .before .before .before .pre .0 .within) k
+    λ limit. c .missed .ensures limit (places (a .count) (a .v)) _ (length-places (a .count) (a .v)) (c .before .before .before .before .pre .within) k
 
 pub put-places-spec : {M : Type 1} → statement M
 put-places-spec =

@@ -8,8 +8,8 @@ use borrow.Author.Needs.{needs}
 use Rattle.rules.specs.declared.IsoWeek.{IsoWeek}
 use Rattle.rules.specs.Decimal.{floorDiv, floorMod}
 use Rattle.rules.specs.Writing.{valueOf, defaultWidth, fillOf, numberFields}
-use Rattle.numbers.proofs.Signed.{widened}
-use Rattle.values.proofs.Laws.{widens, weekly, unchecked, checked, week-checked}
+use Rattle.numbers.proofs.Signed.{widens, widened}
+use Rattle.values.proofs.Laws.{weekly, unchecked, checked, week-checked}
 use Rattle.values.proofs.value_of.Statement.{statement}
 use Rattle.values.proofs.value_of.Tie as tie
 

@@ -1,36 +1,26 @@
 -- The original's function with one restart answers the book's ISO week.
-use mathlib.Core.Path.{_≡_, ap, _∙_, subst⁻¹}
+use mathlib.Core.Path.{ap, _∙_, subst⁻¹}
 use native.Mathlib.Omega.{arith}
 use lib.IntN.{ℤ, pos, natAbs}
-use mir.Syntax.{w32, w64}
-use mir.Val.{SFits, toZ, ofZ}
-use mir.ValLaws.{toZ-ofZ}
 use Rattle.rules.specs.declared.IsoWeek.{IsoWeek}
 use Rattle.rules.specs.Week.{YearAndWeek, iso8601YearAndWeekNumber}
 use Rattle.rules.proofs.YearLaws.{days-from}
 use Rattle.rules.proofs.WeekLaws.{iso-original}
 use Rattle.week.specs.Inner.{Restarts}
-use Rattle.numbers.proofs.Signed.{through}
+use Rattle.numbers.proofs.Signed.{widens, widened}
 use Rattle.week.proofs.iso_8601_year_and_week_number.Statement.{statement}
 use Rattle.week.proofs.iso_8601_year_and_week_number.Tie as tie
-
--- an i32 as an i64
-widens : {y : ℤ} → SFits w32 y → SFits w64 y
-widens {y} f = record { sfits = omega (arith, f .sfits) }
-
-widened : {y : ℤ} → SFits w32 y → toZ w64 (ofZ w64 (toZ w32 (ofZ w32 y))) ≡ y
-widened {y} f = through w64 (toZ-ofZ w32 y f) (widens f)
 
 -- an answer back from the original's numbers
 abbrev back : YearAndWeek → IsoWeek
 back r = record { year = r .year; week = natAbs (r .week) }
 
 cast-year-and-week-number : tie.Need-cast-year-and-week-number
-cast-year-and-week-number c = subst⁻¹ (SFits w64) (toZ-ofZ w32 _ (c .fits .year)) (widens (c .fits .year))
+cast-year-and-week-number c = widens _ (c .fits .year)
 
 year-and-week-number-requires : tie.Need-year-and-week-number-requires
 year-and-week-number-requires c κs =
-    subst⁻¹ (λ (z : ℤ). Restarts z (c .args .week-day) (c .args .year-day-1) 1) (widened (c .fits .year))
+    subst⁻¹ (λ (z : ℤ). Restarts z (c .args .week-day) (c .args .year-day-1) 1) (widened _ (c .fits .year))
     (record {
       small = c .pre .0;
       from = omega arith;
@@ -45,7 +35,7 @@ returns c =
     let p = c .before .pre in
     ap back
     (c .year-and-week-number .ensures
-    ∙ ap (λ (z : ℤ). iso8601YearAndWeekNumber 1 z (pos (a .week-day)) (pos (a .year-day-1))) (widened (c .before .fits .year))
+    ∙ ap (λ (z : ℤ). iso8601YearAndWeekNumber 1 z (pos (a .week-day)) (pos (a .year-day-1))) (widened _ (c .before .fits .year))
     ∙ iso-original (a .year) (a .week-day) (a .year-day-1) (p .0) (p .1) (p .2))
 
 pub iso-8601-year-and-week-number-spec : {M : Type 1} → statement M
