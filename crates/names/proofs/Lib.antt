@@ -1,3 +1,2 @@
 pub mod CalendarLaws
-pub mod MatchLaws
 pub mod TestLaws

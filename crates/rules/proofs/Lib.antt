@@ -5,6 +5,7 @@ pub mod EventLaws
 pub mod FloorLaws
 pub mod FormatLaws
 pub mod Joining
+pub mod MatchLaws
 pub mod OneAnswer
 pub mod OriginalWeek
 pub mod RecordLaws

@@ -13,7 +13,7 @@ use Rattle.rules.specs.declared.Entry.the-variants.{Is, Missing}
 use Rattle.rules.specs.declared.Modifier.{Modifier}
 use Rattle.rules.specs.Reading.{Row, member, modified, lookUp, possibleSpecs, specOf}
 use Rattle.rules.proofs.Tables.{letters}
-use Rattle.names.proofs.MatchLaws.{NoneOf, none-known}
+use Rattle.rules.proofs.MatchLaws.{NoneOf, none-known}
 
 abbrev pub isEntry : Entry → Bool
 isEntry (Is s) = true

@@ -3,7 +3,7 @@ use mathlib.Core.List.{flatten}
 use Prim.Native.Nat.{zero-le}
 use Rattle.rules.specs.Name.{dayNames}
 use Rattle.names.specs.Calendar.{startOf}
-use Rattle.names.proofs.MatchLaws.{is, behind}
+use Rattle.rules.proofs.MatchLaws.{is, behind}
 use Rattle.names.proofs.calendar.day_start.Statement.{statement}
 use Rattle.names.proofs.calendar.day_start.Tie as tie
 
