@@ -1,4 +1,4 @@
--- Week numbers and ISO weeks in numbers of ℕ, and that the original's function answers the book's.
+-- Week numbers and ISO weeks in numbers of ℕ, and that the original's function answers the rules' week.
 use mathlib.Core.Path.{_≡_, ap, _∙_, subst⁻¹}
 use Prim.Native.Nat.{ℕ, suc, _+_, _-_, _/_, _%_, _<_, _≤_}
 use native.Mathlib.Decide.{decLt}
@@ -53,7 +53,7 @@ module _ (y : ℤ) (w d : ℕ) where
   unfolding thursdayRule weekHolding
   thursday-after h k = ap (weekHolding y) (thursday-is ∙ sub-le (d - 1 + 3) (sinceMonday w) h) ∙ rw (le-ltb (d - 1 + 3 - sinceMonday w) (daysIn y) k)
 
--- ## The book's week
+-- ## The rules' week
 
 pub iso-exists : (y : ℤ) (w d : ℕ) → d ≤ daysIn y → isoWeek y w d ≡ thursdayRule y w d
 unfolding isoWeek

@@ -1,4 +1,4 @@
--- `year_and_week_number` follows the book's function; the restarts left are its measure.
+-- `year_and_week_number` follows the function that the rules write down; the restarts left are its measure.
 use mathlib.Core.Path.{_≡_, ap, _∙_, subst⁻¹}
 use Prim.Native.Nat.{ℕ, _+_, _-_, _<_, _≤_, _^_}
 use native.Mathlib.Omega.{arith}

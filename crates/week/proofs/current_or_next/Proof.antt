@@ -1,4 +1,4 @@
--- `current_or_next` answers as the book's `currentOrNext`; the year is read back as it was written.
+-- `current_or_next` answers as the rules' `currentOrNext`; the year is read back as it was written.
 use mathlib.Core.Path.{_≡_, sym, ap, _∙_, subst⁻¹}
 use mathlib.Core.Logic.{⊎-elim}
 use Prim.Native.Nat.{_+_, _-_, _/_, _≤_}

@@ -1,4 +1,4 @@
--- `in_last_week` makes the book's tests without a negative number.
+-- `in_last_week` makes the rules' tests without a negative number.
 use mathlib.Core.Path.{_≡_, ap, _∙_}
 use mathlib.Core.Logic.{⊎-elim}
 use Prim.Native.Nat.{_≤_}

@@ -1,4 +1,4 @@
--- `is_leap_year` tests remainders with the year's sign, the book floor remainders: they are 0 alike.
+-- `is_leap_year` tests remainders with the year's sign, the rules floor remainders: they are 0 alike.
 use native.Mathlib.Omega.{arith}
 use Rattle.week.proofs.Years.{quot-fits, leap-by-400, leap-by-4, leap-not}
 use Rattle.week.proofs.is_leap_year.Statement.{statement}

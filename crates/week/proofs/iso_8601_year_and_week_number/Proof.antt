@@ -1,4 +1,4 @@
--- The original's function with one restart answers the book's ISO week.
+-- The original's function with one restart answers the rules' ISO week.
 use mathlib.Core.Path.{ap, _∙_, subst⁻¹}
 use native.Mathlib.Omega.{arith}
 use lib.IntN.{ℤ, pos, natAbs}

@@ -1,4 +1,4 @@
--- `week_number` computes the book's number by `week-number-nat`.
+-- `week_number` computes the rules' number by `week-number-nat`.
 use Prim.Native.Nat.{_≤_}
 use native.Mathlib.Omega.{arith}
 use borrow.Author.Needs.{needs}
