@@ -40,12 +40,12 @@ known r e w = λ limit f zone u. same-events (ap (λ (x : Combination). combined
 -- ## The pad in front
 
 module _ {limit room : ℕ} (c : Combination) (r : Record) where
-  lead : (p : Piece) {es : List Event} {l l′ l″ : List ℕ} {n m n′ : ℕ} → es ≡ write (padTo p (combinationLength c (r .year))) ∷ [] → Ran limit room es l n l′ m → Combined room c (p .flags .upper) r l′ m l″ n′ → (zone : List ℕ) → Ran limit room (specEvents (combination c) p r zone) l n l″ n′
+  lead : (p : Piece) {upper : Bool} {es : List Event} {l l′ l″ : List ℕ} {n m n′ : ℕ} → es ≡ write (padTo p (combinationLength c (r .year))) ∷ [] → p .flags .upper ≡ upper → Ran limit room es l n l′ m → Combined room c upper r l′ m l″ n′ → (zone : List ℕ) → Ran limit room (specEvents (combination c) p r zone) l n l″ n′
   unfolding specEvents leadOf fieldsOf bodyOf
-  lead p e v w zone = same-events e v then w limit (p .flags) zone refl
+  lead p e u v w zone = same-events e v then w limit (p .flags) zone u
 
-  pub padded : (p : Piece) {k : ℕ} {l l′ l″ : List ℕ} {n m n′ : ℕ} → k ≡ combinationLength c (r .year) → Ran limit room (write (padTo p k) ∷ []) l n l′ m → Combined room c (p .flags .upper) r l′ m l″ n′ → (zone : List ℕ) → Ran limit room (specEvents (combination c) p r zone) l n l″ n′
-  padded p e v w = lead p (ap (λ (k : ℕ). write (padTo p k) ∷ []) e) v w
+  pub padded : (p : Piece) {k : ℕ} {upper : Bool} {l l′ l″ : List ℕ} {n m n′ : ℕ} → k ≡ combinationLength c (r .year) → upper ≡ p .flags .upper → Ran limit room (write (padTo p k) ∷ []) l n l′ m → Combined room c upper r l′ m l″ n′ → (zone : List ℕ) → Ran limit room (specEvents (combination c) p r zone) l n l″ n′
+  padded p e u v w = lead p (ap (λ (k : ℕ). write (padTo p k) ∷ []) e) (sym u) v w
 
   pub plainly : {l l′ l″ : List ℕ} {n m n′ : ℕ} → Ran limit room (write (pad 32 0) ∷ []) l n l′ m → Combined room c false r l′ m l″ n′ → (zone : List ℕ) → Ran limit room (specEvents (combination c) (plainPiece (combination c)) r zone) l n l″ n′
-  plainly v w = lead (plainPiece (combination c)) (ap (λ (k : ℕ). write (pad 32 k) ∷ []) (sym (zero-sub (combinationLength c (r .year))))) v w
+  plainly v w = lead (plainPiece (combination c)) (ap (λ (k : ℕ). write (pad 32 k) ∷ []) (sym (zero-sub (combinationLength c (r .year))))) refl v w

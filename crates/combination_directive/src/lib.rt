@@ -21,6 +21,7 @@ use printing::put_year;
 use printing::write_padding;
 use printing::year_length;
 use rules::Combination;
+use rules::Flag;
 use rules::Piece;
 use rules::Record;
 use text::checked;
@@ -265,7 +266,8 @@ pub fn combination(
     requires { ⌜ Room (now out) room × (65536 ≤ limit) ⌝ }
     ensures { λ r. ⌜ ((zone : List ℕ) → Ran limit room (specEvents (spec.Combination combination) piece «record» zone) (now (out .entry)) at (now (out .exit)) r) ⌝ }
 {
-    let upper = piece.flags.upper;
+    let flags = piece.flags;
+    let upper = flags.contains(Flag::UpperCase);
     let length = combination_length(combination, record.year);
     let next = write_padding(out, at, room, limit, piece, length);
     combined(out, next, room, combination, record, upper)

@@ -13,7 +13,8 @@ use lib.Signed.{mag, natAbs-le}
 use Rattle.rules.specs.declared.Record.{Record}
 use Rattle.rules.specs.declared.Offset.the-variants.{TimeZoneOffsetColonMinimal}
 use Rattle.rules.specs.Record.{within, longestFormat, longestZone}
-use Rattle.rules.specs.Refusal.{Report}
+use Rattle.rules.specs.declared.Answer.{Answer}
+use Rattle.rules.specs.Refusal.{Report, numbered}
 use Rattle.rules.specs.Decimal.{digits, digitsWithin, decimalText, floorDiv}
 use Rattle.rules.specs.Week.{isLeap, daysIn, weekHolding, thursdayRule, isoWeek}
 use Rattle.rules.specs.Offset.{hoursOf, minus, extra, Form, hh, hhmm, hh:mm, hh:mm:ss, formOf, lengthOfForm}
@@ -21,6 +22,7 @@ use Rattle.rules.specs.Writing.{valueOf, defaultWidth}
 use Rattle.rules.specs.Format.{items, whole}
 use Rattle.rules.specs.Size.{NoneServes, Kept, Sizing, Typed, AnyStamp, GoodStamp}
 use Rattle.rules.proofs.DecimalLaws.{count-le, length-text-pos, length-text-neg}
+use Rattle.rules.proofs.OneAnswer.{one-answer}
 use Rattle.rules.proofs.WeekLaws.{iso-year-near}
 use Rattle.rules.proofs.WidthLaws.{year-narrow, extra-small}
 use Rattle.longest.specs.Witness.{september, december, witness, longestIn, sizeOf}
@@ -125,6 +127,10 @@ size-is format longest = sizing-by (longestIn september) (longestIn december) (g
 -- any two reports that it allows are equal
 pub sizing-once : (format : List ℕ) (longest : ℕ) (a b : Report) → Sizing (AnyStamp longest) (GoodStamp longest) format longest a → Sizing (AnyStamp longest) (GoodStamp longest) format longest b → a ≡ b
 sizing-once format longest a b = once (good-sets longest) format
+
+-- and so are any two answers
+pub size-once : (format : List ℕ) (longest : ℕ) (a b : Answer) → Sizing (AnyStamp longest) (GoodStamp longest) format longest (numbered a) → Sizing (AnyStamp longest) (GoodStamp longest) format longest (numbered b) → a ≡ b
+size-once format longest a b s t = one-answer a b (sizing-once format longest (numbered a) (numbered b) s t)
 
 pub five-exactly : (format : List ℕ) (longest : ℕ) → (sizeOf format longest .number ≡ 5) ↔ ((longestFormat < length format) ⊎ (longestZone < longest))
 five-exactly format longest = five-if (good-sets longest) format (size-is format longest)

@@ -104,14 +104,6 @@ pub fn digit_count(v: u64) -> usize
     }
 }
 
-// How long the decimal text of v is.
-pub fn text_length(v: i32) -> usize
-    ensures { λ r. ⌜ r ≡ length (decimalText v) ⌝ }
-{
-    let n = digit_count(unsigned_abs(v) as u64);
-    if v < 0 { n + 1 } else { n }
-}
-
 // The last `count` digits of v at `at`, with zeros in front where v has fewer.
 pub fn write_places(out: &mut [u8], at: usize, count: usize, v: u64)
     requires { ⌜ at + count ≤ length (now out) ⌝ }

@@ -150,11 +150,13 @@ pub fn put_year(out: &mut [u8], at: usize, room: usize, year: i32) -> usize
     put_digits(out, at, room, size as u64, 4)
 }
 
-// How many bytes a year takes that is written with zeros to at least so many.
+// How many bytes a year takes that is written with zeros to at least so many. The printer counts its digits: a count by comparisons
+// would be computed ahead of every format's loop, whether or not a combination is padded.
 pub fn year_length(year: i32, least: usize) -> usize
     ensures { λ r. ⌜ r ≡ length (filled zeros least year) ⌝ }
 {
-    let length = numbers::text_length(year);
+    let decimal = numbers::decimal_text(year as i64);
+    let length = decimal.count;
     if length < least { least } else { length }
 }
 

@@ -1,6 +1,6 @@
 -- The tender's first two demands, of the outcome that the formatting entry promises.
 use mathlib.Core.Path.{_≡_, refl, sym, ap, _∙_}
-use mathlib.Core.List.{List, _++_}
+use mathlib.Core.List.{List, [], _++_}
 use mathlib.Core.Logic.{_⊎_, inl, inr}
 use Prim.Native.Nat.{ℕ, _+_, _-_, _≤_}
 use native.Mathlib.Omega.{arith}
@@ -11,13 +11,14 @@ use lib.IntN.{pos}
 use Rattle.rules.specs.declared.Record.{Record}
 use Rattle.rules.specs.declared.IsoWeek.{IsoWeek}
 use Rattle.rules.specs.declared.Number.the-variants.{YearIso8601, YearIso8601Rem100, WeekNumberIso8601}
+use Rattle.rules.specs.Record.{longestZone, longestBuffer}
 use Rattle.rules.specs.Event.{Event, textOf, Count, at, no, tally, done, refused, outcomeOf, run, reported, bufferAfter}
 use Rattle.rules.specs.Decimal.{floorMod}
 use Rattle.rules.specs.Week.{daysIn, thursdayRule}
 use Rattle.rules.specs.Writing.{valueOf}
-use Rattle.rules.specs.Format.{items, limitOf, formatEvents, formatted}
+use Rattle.rules.specs.Format.{items, read, ending, events, limitOf, formatEvents, formatted}
 use Rattle.rules.proofs.WeekLaws.{iso-exists}
-use Rattle.rules.proofs.FormatLaws.{Among, Numbered, numbered-items, CountOk, tally-ok}
+use Rattle.rules.proofs.FormatLaws.{runs, Among, Numbered, numbered-items, CountOk, tally-ok}
 use Rattle.rules.proofs.EventLaws.{length-text, run-done}
 
 -- ## A text or a refusal of the table
@@ -76,6 +77,11 @@ beyond-kept text buffer i h =
     ∙ getD-append-add text (drop (length text) buffer) (i - length text) 0
     ∙ getD-drop (length text) buffer (i - length text) 0
     ∙ ap (λ (k : ℕ). getD buffer k 0) (sym e)
+
+-- "An empty format gives done, length 0, whatever the record holds."
+pub empty-format : (zone : List ℕ) (r : Record) (room : ℕ) → length zone ≤ longestZone → room ≤ longestBuffer → formatted [] zone r room ≡ done []
+unfolding run read ending events tally textOf
+empty-format zone r room h g = runs [] zone r room (lit≤ tt) h g
 
 -- ## ISO weeks
 

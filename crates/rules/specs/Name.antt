@@ -78,6 +78,6 @@ caseOf MeridianUpper f = cond (f .change) lowered asItIs
 caseOf WeekDayName f = raisedByBoth f
 caseOf WeekDayNameAbbr f = raisedByBoth f
 
--- "`Z`: `#` lowers and wins over `^`, which raises."
+-- "`Z`: .. `#` lowers and wins over `^`, which raises."
 abbrev pub zoneCase : Flags → Case
 zoneCase f = cond (f .change) lowered (cond (f .upper) raised asItIs)

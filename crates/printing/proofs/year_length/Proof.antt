@@ -3,19 +3,21 @@ use mathlib.Core.Path.{_≡_, ap, _∙_}
 use native.Mathlib.Omega.{arith}
 use lib.IntN.{ℤ}
 use lib.ListN.{length}
-use mir.Syntax.{w32}
-use mir.ValLaws.{toZ-ofZ}
 use Rattle.rules.specs.Decimal.{decimalText, zeros}
 use Rattle.rules.proofs.DecimalLaws.{length-filled}
+use Rattle.numbers.proofs.Signed.{widens, widened}
 use borrow.Author.Needs.{needs}
 use Rattle.printing.proofs.year_length.Statement.{statement}
 use Rattle.printing.proofs.year_length.Tie as tie
 
-text-length-requires : tie.Need-text-length-requires
-text-length-requires c κs = search needs
+cast-decimal-text : tie.Need-cast-decimal-text
+cast-decimal-text c = widens _ (c .fits .year)
 
-length-is : (c : tie.After-text-length) → c .text-length .result ≡ length (decimalText (c .before .args .year))
-length-is c = c .text-length .ensures ∙ ap (λ (z : ℤ). length (decimalText z)) (toZ-ofZ w32 _ (c .before .fits .year))
+decimal-text-requires : tie.Need-decimal-text-requires
+decimal-text-requires c κs = search needs
+
+length-is : (c : tie.After-decimal-text) → c .decimal-text .result .count ≡ length (decimalText (c .before .args .year))
+length-is c = c .decimal-text .ensures .1 ∙ ap (λ (z : ℤ). length (decimalText z)) (widened _ (c .before .fits .year))
 
 returns : tie.Need-returns
 returns c = omega (arith, length-is (c .before), length-filled zeros (c .before .before .args .least) (c .before .before .args .year))
@@ -24,4 +26,4 @@ returns-2 : tie.Need-returns-2
 returns-2 c = omega (arith, length-is (c .before), length-filled zeros (c .before .before .args .least) (c .before .before .args .year))
 
 pub year-length-spec : {M : Type 1} → statement M
-year-length-spec = tie.close (tie.spec text-length-requires returns returns-2)
+year-length-spec = tie.close (tie.spec cast-decimal-text decimal-text-requires returns returns-2)
