@@ -1,4 +1,4 @@
-// Ports the arms of `Piece::fmt` of format/mod.rs that write combinations: padding first, then the check, then one text.
+// Ports the arms of `Piece::fmt` of mod.rs that write combinations: padding first, then the check, then one text.
 ghost use mathlib.Core.Path.{_≡_};
 ghost use mathlib.Core.Bool.{Bool};
 ghost use mathlib.Core.List.{List, [], _∷_};

@@ -1,4 +1,4 @@
-// check.rs: whether a field is in its range.
+// Ports check.rs: whether a field is in its range.
 ghost use mathlib.Core.Path.{_≡_};
 ghost use mathlib.Core.List.{List, [], _∷_};
 ghost use Prim.Native.Nat.{ℕ};

@@ -1,4 +1,4 @@
-// Ports `format_string` of format/mod.rs, and the arms of its `Piece::fmt` that write names and single bytes.
+// Ports `format_string` of mod.rs, and the arms of its `Piece::fmt` that write names, the zone name and single bytes.
 ghost use mathlib.Core.Path.{_≡_};
 ghost use mathlib.Core.Bool.{Bool};
 ghost use mathlib.Core.List.{List, [], _∷_, map};

@@ -1,4 +1,4 @@
-// Ports `format_num_zeros`, `format_num_spaces`, `pad_width` and `format_nanoseconds` of format/mod.rs, and the arms of its `Piece::fmt` that call them.
+// Ports `format_num_zeros`, `format_num_spaces`, `pad_width` and `format_nanoseconds` of mod.rs, and the arms of its `Piece::fmt` that call them.
 ghost use mathlib.Core.Path.{_≡_};
 ghost use mathlib.Core.Bool.{false};
 ghost use mathlib.Core.List.{List, [], _∷_, map};

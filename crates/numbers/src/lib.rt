@@ -1,4 +1,4 @@
-// Ports what core::fmt and the integers' own methods do for format/mod.rs: numbers as text, magnitudes, floor quotients.
+// Ports what core::fmt and the integers' own methods do for mod.rs: numbers as text, magnitudes, floor quotients.
 ghost use mathlib.Core.Path.{_≡_};
 ghost use mathlib.Core.List.{_++_};
 ghost use Prim.Native.Nat.{ℕ, _+_, _-_, _*_, _/_, _%_, _^_, _<_, _≤_};

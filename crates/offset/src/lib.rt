@@ -1,4 +1,4 @@
-// `UtcOffset` of mod.rs: an offset from UTC in parts. Its hour is an f64, so that zero has a sign; `offset_parts` gives it in plain numbers.
+// Ports `UtcOffset` and `compute_offset_parts` of mod.rs: an offset from UTC in parts. Its hour is an f64, so that zero has a sign; `offset_parts` gives it in plain numbers.
 ghost use mathlib.Core.Path.{_≡_};
 ghost use mathlib.Core.Bool.{not, cond};
 ghost use lib.Dec.{T};

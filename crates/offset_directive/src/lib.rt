@@ -1,4 +1,4 @@
-// Ports the offsets of format/mod.rs: `write_hour_sign`, `write_offset_hour`, the four `write_offset_hh..`, and the `TimeZoneOffset..` arms of `Piece::fmt`.
+// Ports the offsets of mod.rs: `write_hour_sign`, `write_offset_hour`, the four `write_offset_hh..`, and the `TimeZoneOffset..` arms of `Piece::fmt`.
 // A form is told by its length: +hh 3, +hhmm 5, +hh:mm 6, +hh:mm:ss 9.
 ghost use mathlib.Core.Path.{_≡_};
 ghost use mathlib.Core.Bool.{not};

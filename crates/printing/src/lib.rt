@@ -1,4 +1,4 @@
-// Ports what core::fmt writes for format/mod.rs (`{:0width$}` and `{: >width$}`), and `write_padding` of format/mod.rs.
+// Ports what core::fmt writes for mod.rs (`{:0width$}` and `{: >width$}`), `write_padding` and `year_width` of mod.rs.
 ghost use mathlib.Core.Path.{_≡_};
 ghost use mathlib.Core.List.{[], _∷_, _++_};
 ghost use Prim.Native.Nat.{ℕ, suc, _-_, _≤_, _<_};

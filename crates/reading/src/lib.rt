@@ -1,4 +1,4 @@
-// Ports `parse_spec` of mod.rs.
+// Ports `parse_spec` of mod.rs; with it the end of a run of literal bytes, and whether a whole format is valid.
 ghost use mathlib.Core.Path.{_≡_};
 ghost use mathlib.Core.Bool.{true, false};
 ghost use Prim.Native.Nat.{_+_, _<_, min};

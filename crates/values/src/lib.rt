@@ -1,4 +1,4 @@
-// The arms of `Piece::fmt` of mod.rs that print a number: which fields they check, the number, its default width and fill.
+// Ports the arms of `Piece::fmt` of mod.rs that print a number: which fields they check, the number, its default width and fill.
 ghost use mathlib.Core.Path.{_≡_};
 ghost use mathlib.Core.Bool.{true, false};
 ghost use Prim.Native.Nat.{_≤_};
