@@ -2,9 +2,8 @@
 use mathlib.Core.Path.{_≡_, refl, sym, ap, _∙_}
 use mathlib.Core.Bool.{Bool, true, false, not}
 use mathlib.Core.List.{List, [], _∷_}
-use Prim.Native.Nat.{ℕ, _≤_}
+use Prim.Native.Nat.{ℕ}
 use native.Mathlib.Nat.{zero-sub}
-use lib.ListN.{length}
 use borrow.Author.Tests.{not-true, not-false}
 use Rattle.rules.specs.declared.Combination.{Combination}
 use Rattle.rules.specs.declared.Flags.{Flags}
@@ -16,8 +15,7 @@ use Rattle.rules.specs.Record.{Field, allOk}
 use Rattle.rules.specs.Writing.{padTo, combinationLength, combinationText, combinationFields, fieldsOf, leadOf, bodyOf, specEvents}
 use Rattle.rules.proofs.RecordLaws.{Each, ranges-of}
 use Rattle.text.specs.Ran.{Ran}
-use Rattle.text.specs.Room.{Room}
-use Rattle.text.proofs.RanLaws.{room-short, _then_, same-events, said, told, checks-hold, stopped}
+use Rattle.text.proofs.RanLaws.{_then_, same-events, said, told, checks-hold, stopped}
 use Rattle.printing.specs.Plain.{plainPiece}
 use Rattle.combination_directive.specs.Combined.{combinedEvents, Combined}
 
@@ -27,8 +25,8 @@ pub in-range : (fs : List Field) (r : Record) {ok : Bool} → ok ≡ allOk fs r 
 in-range fs r e t = ranges-of fs r [] (sym e ∙ not-false _ t)
 
 module _ (c : Combination) (r : Record) {ok : Bool} (checked : (zone : List ℕ) → ok ≡ allOk (combinationFields c) r zone) where
-  pub failed : {room : ℕ} {upper : Bool} {l : List ℕ} {n n′ : ℕ} → not ok ≡ true → Room l room → ((limit room : ℕ) (l : List ℕ) → length l ≤ 65536 → Ran limit room (check false 1 ∷ []) l n l n′) → Combined room c upper r l n l n′
-  failed t g w = λ limit f zone e. told (sym (not-true ok t) ∙ checked zone) (stopped (room-short g) (w limit _ _ (room-short g)))
+  pub failed : {room : ℕ} {upper : Bool} {l : List ℕ} {n n′ : ℕ} → not ok ≡ true → ((limit room : ℕ) (l : List ℕ) → Ran limit room (check false 1 ∷ []) l n l n′) → Combined room c upper r l n l n′
+  failed t w = λ limit f zone e. told (sym (not-true ok t) ∙ checked zone) (stopped (w limit _ _))
 
   pub written : {room : ℕ} {upper : Bool} {t l l′ : List ℕ} {n n′ : ℕ} → not ok ≡ false → ((f : Flags) → f .upper ≡ upper → t ≡ combinationText c f r) → ((limit : ℕ) → Ran limit room (write (put t) ∷ []) l n l′ n′) → Combined room c upper r l n l′ n′
   written t q w = λ limit f zone e. told (sym (not-false ok t) ∙ checked zone) (checks-hold (said (q f e) (w limit)))

@@ -1,12 +1,12 @@
 -- Case: of one byte, of a text that is laid byte by byte, and of a zone name.
-use mathlib.Core.Path.{_≡_, refl, sym, _∙_}
+use mathlib.Core.Path.{_≡_, refl, sym, ap, _∙_}
 use mathlib.Core.Bool.{true, false}
 use mathlib.Core.List.{List, [], _∷_, map}
 use Prim.Native.Nat.{ℕ, zero, suc, _+_, _≤_, _<_}
 use native.Mathlib.Omega.{arith}
 use borrow.Author.Tests.{lt-leb}
 use lib.Dec.{leb}
-use lib.ListN.{length, getD, set, length-map}
+use lib.ListN.{length, getD, set, take, length-map}
 use Rattle.rules.specs.declared.Flags.{Flags}
 use Rattle.rules.specs.Name.{upper, inCase, zoneCase}
 use Rattle.rules.specs.Record.{within}
@@ -34,6 +34,12 @@ map-at f (b ∷ t) (suc j) h = map-at f t j (omega arith)
 
 pub laid-through : (f : ℕ → ℕ) (t : List ℕ) {at : ℕ} {l : List ℕ} {j b : ℕ} {l′ : List ℕ} → Laid at (map f t) l j l′ → j < length t → b ≡ f (getD t j 0) → Laid at (map f t) l (j + 1) (set l′ (at + j) b)
 laid-through f t {j = j} w h e = rw (e, ← map-at f t j h) (laid-more w (simp length-map h))
+
+-- the front of it
+pub map-front : (f : ℕ → ℕ) (k : ℕ) (t : List ℕ) → map f (take k t) ≡ take k (map f t)
+map-front f zero t = refl
+map-front f (suc k) [] = refl
+map-front f (suc k) (b ∷ t) = ap (λ (u : List ℕ). f b ∷ u) (map-front f k t)
 
 -- ## A text in a case
 

@@ -57,9 +57,9 @@ module _ {limit room : ℕ} where
     unfolding specEvents leadOf fieldsOf bodyOf
     name-held t w = told (sym t ∙ e) (checks-hold w)
 
-    pub name-failed : {l : List ℕ} {a b : ℕ} → ok ≡ false → length l ≤ 65536 → Ran limit room (check false 1 ∷ []) l a l b → Ran limit room (specEvents (name n) p r zone) l a l b
+    pub name-failed : {l : List ℕ} {a b : ℕ} → ok ≡ false → Ran limit room (check false 1 ∷ []) l a l b → Ran limit room (specEvents (name n) p r zone) l a l b
     unfolding specEvents leadOf fieldsOf bodyOf
-    name-failed t h w = told (sym t ∙ e) (stopped h w)
+    name-failed t w = told (sym t ∙ e) (stopped w)
 
   cased : (n : Name) (p : Piece) (r : Record) {capital : Bool} {k : ℕ} {l l′ : List ℕ} {a b : ℕ} → k ≡ numberOf n r → capital ≡ capitals n (p .flags) → Ran limit room (write (put (lettersOf n capital k)) ∷ []) l a l′ b → Ran limit room (write (put (inCase (caseOf n (p .flags)) (nameOf n r))) ∷ []) l a l′ b
   cased n p r e q w = said (letters-are n p r e q) w

@@ -186,6 +186,24 @@ fn copy_cased(out: &mut [u8], at: usize, src: &[u8], lowered: bool)
     }
 }
 
+// What fits of a text that doesn't is written by a call of itself, as in `text`.
+fn cased_short(out: &mut [u8], at: usize, room: usize, src: &[u8], lowered: bool) -> usize
+    requires { ⌜ Room (now out) room ⌝ }
+    ensures { λ r. ⌜ ((limit : ℕ) → Ran limit room (event.write (event.put (map (byteIn lowered) (now (src .entry)))) ∷ []) (now (out .entry)) at (now (out .exit)) r) ⌝ }
+{
+    let count = src.len();
+    if text::fits(at, count, out.len()) {
+        copy_cased(out, at, src, lowered);
+        return at + count;
+    }
+    if at < out.len() {
+        let left = out.len() - at;
+        let end = cased_short(out, at, room, &src[..left], lowered);
+        return text::missed(at, count, room);
+    }
+    text::missed(at, count, room)
+}
+
 fn put_cased(out: &mut [u8], at: usize, room: usize, src: &[u8], lowered: bool) -> usize
     requires { ⌜ Room (now out) room ⌝ }
     ensures { λ r. ⌜ ((limit : ℕ) → Ran limit room (event.write (event.put (map (byteIn lowered) (now (src .entry)))) ∷ []) (now (out .entry)) at (now (out .exit)) r) ⌝ }
@@ -195,7 +213,7 @@ fn put_cased(out: &mut [u8], at: usize, room: usize, src: &[u8], lowered: bool) 
         copy_cased(out, at, src, lowered);
         return at + count;
     }
-    text::missed(at, count, room)
+    cased_short(out, at, room, src, lowered)
 }
 
 // `#` lowers and wins over `^`, which raises.
@@ -209,7 +227,7 @@ fn put_zone(out: &mut [u8], at: usize, room: usize, zone: &[u8], flags: Flags) -
     if flags.upper {
         return put_cased(out, at, room, zone, false);
     }
-    text::put(out, at, room, zone)
+    text::put_slice(out, at, room, zone)
 }
 
 pub fn zone_name(
@@ -241,7 +259,7 @@ pub fn plain_zone_name(out: &mut [u8], at: usize, room: usize, limit: usize, zon
     if zone.len() == 0 {
         return checked;
     }
-    text::put(out, checked, room, zone)
+    text::put_slice(out, checked, room, zone)
 }
 
 fn fixed_byte(fixed: Fixed) -> u8

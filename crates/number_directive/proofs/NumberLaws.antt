@@ -5,7 +5,6 @@ use mathlib.Core.List.{List, [], _∷_, map}
 use Prim.Native.Nat.{ℕ, _-_, _≤_, _<_, min}
 use native.Mathlib.Omega.{arith}
 use lib.IntN.{ℤ}
-use lib.ListN.{length}
 use Rattle.rules.specs.declared.Number.{Number}
 use Rattle.rules.specs.declared.Padding.the-variants.{Left, Spaces, Zeros}
 use Rattle.rules.specs.declared.Piece.{Piece}
@@ -69,6 +68,6 @@ module _ (n : Number) (p : Piece) (r : Record) (zone : List ℕ) {value : Value}
   unfolding specEvents leadOf fieldsOf
   number-held t e f w x v = told (sym t ∙ is .ok zone) (checks-hold (same-events (body t e f w x) v))
 
-  pub number-failed : value .ok ≡ false → {limit room : ℕ} {l : List ℕ} {a b : ℕ} → length l ≤ 65536 → Ran limit room (check false 1 ∷ []) l a l b → Ran limit room (specEvents (number n) p r zone) l a l b
+  pub number-failed : value .ok ≡ false → {limit room : ℕ} {l : List ℕ} {a b : ℕ} → Ran limit room (check false 1 ∷ []) l a l b → Ran limit room (specEvents (number n) p r zone) l a l b
   unfolding specEvents leadOf fieldsOf
-  number-failed t h w = told (sym t ∙ is .ok zone) (stopped h w)
+  number-failed t w = told (sym t ∙ is .ok zone) (stopped w)

@@ -21,7 +21,7 @@ module _ (a b room : ℕ) (t : List ℕ) where
 -- a write goes by no limit
 any-limit : {a b room : ℕ} {t l l′ : List ℕ} {n r : ℕ} → Ran a room (write (put t) ∷ []) l n l′ r → Ran b room (write (put t) ∷ []) l n l′ r
 any-limit {a} {b} {room} {t} w =
-    record { count = w .count ∙ limits-alike a b room t _; grows = w .grows; kept = w .kept; next = w .next; text = w .text }
+    record { count = w .count ∙ limits-alike a b room t _; text = w .text }
 
 -- a pad that has its place in the list lies below the longest buffer
 pub pad-put : {limit room c count : ℕ} {l l′ : List ℕ} {n r : ℕ} → Ran 65536 room (write (pad c count) ∷ []) l n l′ r → n + count ≤ length l → Room l room → Ran limit room (write (put (replicate count c)) ∷ []) l n l′ r

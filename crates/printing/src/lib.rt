@@ -47,7 +47,7 @@ pub fn put_run(out: &mut [u8], at: usize, room: usize, byte: u8, count: usize) -
     if text::fits(at, count, out.len()) {
         return text::pad(out, at, room, 65536, byte, count);
     }
-    text::missed(at, count, room)
+    text::run_short(out, at, room, byte, count)
 }
 
 // The digits of v behind as many zeros as the width asks for.
@@ -133,7 +133,7 @@ pub fn put_four(out: &mut [u8], at: usize, room: usize, v: u32) -> usize
         out[at + 3] = numbers::ones(back);
         return at + 4;
     }
-    text::missed(at, 4, room)
+    text::places_short(out, at, room, 4, v as u64)
 }
 
 pub fn put_year(out: &mut [u8], at: usize, room: usize, year: i32) -> usize

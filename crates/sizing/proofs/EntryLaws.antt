@@ -1,13 +1,13 @@
 -- What the entry counts at a witness, and what it answers for each way through it.
-use mathlib.Core.Path.{_≡_, refl, sym, ap, subst, _∙_}
+use mathlib.Core.Path.{_≡_, sym, subst, _∙_}
 use mathlib.Core.Bool.{Bool, true, false, cond, not}
-use mathlib.Core.List.{List, _∷_}
-use Prim.Native.Nat.{ℕ, zero, suc, _≤_, _<_, min, max}
+use mathlib.Core.List.{List}
+use Prim.Native.Nat.{ℕ, _≤_, _<_, min, max}
 use native.Mathlib.Omega.{arith}
 use native.Mathlib.Decide.{decLt}
 use borrow.Author.Tests.{le-leb, lt-ltb, le-ltb, not-false}
 use lib.Dec.{ltb, lit≤, nltb→le}
-use lib.ListN.{length, take, replicate}
+use lib.ListN.{length, replicate}
 use Rattle.rules.specs.declared.Record.{Record}
 use Rattle.rules.specs.declared.Refusal.the-variants.{InputTooLong, InvalidFormatString, NoBuffer}
 use Rattle.rules.specs.declared.Answer.{Answer}
@@ -21,19 +21,14 @@ use Rattle.rules.specs.Format.{items, events, whole, limitOf, valid}
 use Rattle.rules.specs.Size.{AnyStamp, GoodStamp, Sizing}
 use Rattle.rules.proofs.EventLaws.{splitOn}
 use Rattle.text.specs.Ran.{Ran}
-use Rattle.text.proofs.EntryLaws.{counted, ran-refused}
+use Rattle.text.proofs.RanLaws.{counted}
+use Rattle.text.proofs.EntryLaws.{ran-refused}
 use Rattle.longest.specs.Witness.{september, december, witness, longestIn, lengthAt, greater, tooLong, noBuffer, refuses, needing, reportOf, sizeBy, sizeOf}
 use Rattle.longest.proofs.Fitting.{run-fits}
 use Rattle.longest.proofs.Checks.{in-range-holds}
 use Rattle.longest.proofs.Members.{within-limit}
 use Rattle.longest.proofs.Witnesses.{witness-in-range}
 use Rattle.longest.proofs.ThirdDemand.{size-is}
-
--- the front of a run of one byte
-pub take-replicate : (k n x : ℕ) → k ≤ n → take k (replicate n x) ≡ replicate k x
-take-replicate zero n x h = refl
-take-replicate (suc k) zero x h = absurd (omega arith)
-take-replicate (suc k) (suc n) x h = ap (λ (l : List ℕ). x ∷ l) (take-replicate k n x (omega arith))
 
 module _ (month longest : ℕ) (format : List ℕ) where
   abbrev at-witness : List Event

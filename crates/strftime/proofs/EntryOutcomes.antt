@@ -14,7 +14,8 @@ use Rattle.rules.specs.Event.{Event, at, tally, Outcome, refused, run, reported
 use Rattle.rules.proofs.FormatLaws.{Among, Numbered, CountOk, tally-ok}
 use Rattle.text.specs.Ran.{Ran}
 use Rattle.text.proofs.PlaceLaws.{count-at, count-no}
-use Rattle.text.proofs.EntryLaws.{inside, ran-done, ran-refused, ran-length, untouched, written, copied}
+use Rattle.text.proofs.RanLaws.{inside}
+use Rattle.text.proofs.EntryLaws.{ran-done, ran-refused, ran-length, untouched, written, copied}
 
 -- an answer and a buffer are what an outcome asks
 abbrev pub Promised : Outcome → List ℕ → Answer → List ℕ → Type 0

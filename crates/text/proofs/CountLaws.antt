@@ -8,9 +8,9 @@ use borrow.Author.Tests.{le-leb, lt-leb}
 use lib.Dec.{leb, leb→le, nleb→lt}
 use lib.ListN.{length, replicate, length-append, length-replicate}
 use Rattle.rules.specs.Event.{put, pad, Event, write, check, Count, at, no, roomFor, writeAt, one, tally}
-use Rattle.rules.proofs.EventLaws.{splitOn, stop-first}
+use Rattle.rules.proofs.EventLaws.{splitOn, tally-no, stop-first}
 use Rattle.text.specs.Ran.{countAt}
-use Rattle.text.proofs.PlaceLaws.{count-at}
+use Rattle.text.proofs.PlaceLaws.{count-at, by-place}
 
 room-fits : (room m : ℕ) → m ≤ room → roomFor room m ≡ at m
 unfolding roomFor
@@ -75,3 +75,7 @@ module _ (limit room : ℕ) where
 
   pub check-refused : (number n r : ℕ) → n ≤ 65536 → countAt r ≡ no number n → countAt r ≡ tally limit room (check false number ∷ []) (countAt n)
   check-refused number n r h e = e ∙ sym (ap (tally limit room (check false number ∷ [])) (count-at n h) ∙ stop-first limit room [] number n)
+
+  -- a refused place stays
+  pub refused-counts : (es : List Event) (n : ℕ) → 65536 < n → countAt n ≡ tally limit room es (countAt n)
+  refused-counts es n h = by-place (λ c. c ≡ tally limit room es c) n (λ k. absurd (omega arith)) (λ k. sym (tally-no limit room es _ _))

@@ -1,5 +1,5 @@
 -- The laws of places: what a number stands for, and that no two stand for the same.
-use mathlib.Core.Path.{_≡_, refl, sym, _∙_}
+use mathlib.Core.Path.{_≡_, refl, sym, ap, _∙_}
 use mathlib.Core.Bool.{Bool, true, false}
 use Prim.Native.Nat.{ℕ, _+_, _-_, _*_, _/_, _%_, _≤_, _<_}
 use native.Mathlib.Omega.{arith}
@@ -7,7 +7,7 @@ use borrow.Author.Tests.{le-leb, lt-leb, leb-true, leb-false}
 use lib.Dec.{leb, leb→le, nleb→lt}
 use Rattle.rules.specs.Event.{Count, at, no}
 use Rattle.rules.proofs.EventLaws.{splitOn}
-use Rattle.text.specs.Ran.{countAt}
+use Rattle.text.specs.Ran.{countAt, reachOf}
 
 pub count-at : (n : ℕ) → n ≤ 65536 → countAt n ≡ at n
 unfolding countAt
@@ -53,8 +53,16 @@ fits-yes n m e t = leb-true n m (sym e ∙ t)
 pub fits-no : {b : Bool} (n m : ℕ) → b ≡ leb n m → b ≡ false → m < n
 fits-no n m e t = leb-false n m (sym e ∙ t)
 
--- what stands for a refusal is no place of the text
-pub refused-past : {r number reach : ℕ} → countAt r ≡ no number reach → 65536 < r
-refused-past {r} {number} {reach} =
-    by-place (λ c. c ≡ no number reach → 65536 < r) r
-    (λ h e. let z : _≡_ {A = ℕ} 0 1 = cc in absurd (omega arith)) (λ h e. h)
+-- ## How far the text came
+
+pub reach-at : (n : ℕ) → n ≤ 65536 → reachOf (countAt n) ≡ n
+unfolding reachOf
+reach-at n h = ap reachOf (count-at n h)
+
+pub reach-no : (r : ℕ) {number reach : ℕ} → countAt r ≡ no number reach → reachOf (countAt r) ≡ reach
+unfolding reachOf
+reach-no r e = ap reachOf e
+
+-- no further than where a refused place stands
+pub reach-past : (n : ℕ) → 65536 < n → reachOf (countAt n) - n ≡ 0
+reach-past n h = let e = reach-no n (count-no n h) in omega arith

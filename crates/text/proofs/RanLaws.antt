@@ -1,18 +1,21 @@
--- The laws of runs: one after the other, the same run told by other events, and a run that is refused.
+-- The laws of runs: the place and the bytes that a run leads to, one run after the other, the same run told by other events, writes and refusals.
 use mathlib.Core.Path.{_≡_, refl, sym, ap, _∙_, subst}
 use mathlib.Core.Bool.{Bool, true, false}
 use mathlib.Core.List.{List, [], _∷_, _++_, append-assoc, append-nil}
-use Prim.Native.Nat.{ℕ, _+_, _≤_, _<_}
+use Prim.Native.Nat.{ℕ, _+_, _-_, _≤_, _<_}
 use native.Mathlib.Omega.{arith}
-use lib.ListN.{length, replicate}
+use native.Mathlib.Decide.{decLt}
+use lib.ListN.{length, take, drop, replicate, length-take}
+use lib.Seq.{take-all, take-nil, take-append-le, take-append-add}
 use Rattle.rules.specs.Event.{put, pad, Event, write, check, bytesOf, textOf, lengthOf, at, tally}
-use Rattle.rules.proofs.EventLaws.{length-text, length-join, text-join, tally-join, tally-no, stop-first}
+use Rattle.rules.proofs.EventLaws.{length-text, text-join, tally-join, tally-no, tally-done, tally-room, stop-first}
 use Rattle.text.specs.Overlay.{overlay}
-use Rattle.text.specs.Ran.{countAt, Ran}
+use Rattle.text.specs.Ran.{countAt, reachOf, Ran}
 use Rattle.text.specs.Room.{Room}
-use Rattle.text.proofs.OverlayLaws.{overlay-nil, length-overlay, overlay-append}
-use Rattle.text.proofs.PlaceLaws.{by-place, refused-past}
-use Rattle.text.proofs.CountLaws.{put-counted, join-counts, pad-counts, pad-after-counts, check-counts}
+use Rattle.text.proofs.OverlayLaws.{overlay-nil, length-overlay, overlay-append, overlay-clipped, overlay-front-of, overlay-before, overlay-behind}
+use Rattle.text.proofs.PlaceLaws.{count-at, count-no, by-place, same-place, reach-at, reach-no, reach-past}
+use Rattle.text.proofs.CountLaws.{put-counted, join-counts, pad-counts, pad-after-counts, check-counts, refused-counts}
+use Rattle.text.proofs.ReachLaws.{reach-most, reach-least, no-room}
 
 join-texts : (a b : List ℕ) (es : List Event) → textOf (write (put a) ∷ write (put b) ∷ es) ≡ textOf (write (put (a ++ b)) ∷ es)
 unfolding textOf bytesOf
@@ -22,36 +25,103 @@ text-one : (t : List ℕ) → textOf (write (put t) ∷ []) ≡ t
 unfolding textOf bytesOf
 text-one t = append-nil t
 
-pub room-short : {l : List ℕ} {room : ℕ} → Room l room → length l ≤ 65536
-room-short r = omega (arith, r .within, r .small)
+-- ## Where a run leads
+
+module _ {limit room : ℕ} {es : List Event} {l l′ : List ℕ} {n n′ : ℕ} (w : Ran limit room es l n l′ n′) where
+  counted-from : n ≤ 65536 → countAt n′ ≡ tally limit room es (at n)
+  counted-from h = w .count ∙ ap (tally limit room es) (count-at n h)
+
+  -- a refused place stays
+  pub stays : 65536 < n → n′ ≡ n
+  stays h = same-place (w .count ∙ ap (tally limit room es) (count-no n h) ∙ tally-no limit room es _ _ ∙ sym (count-no n h))
+
+  pub grows : n ≤ n′
+  grows =
+      elim (decLt 65536 n) [
+        | yes h ↦ omega (arith, stays h)
+        | no h ↦ elim (decLt 65536 n′) [ yes k ↦ omega arith | no k ↦ omega (arith, tally-done limit room es n n′ (sym (counted-from (omega arith)) ∙ count-at n′ (omega arith)) .1) ]
+      ]
+
+  -- of a run that isn't refused
+  pub tallied : n′ ≤ 65536 → tally limit room es (at n) ≡ at n′
+  tallied h = sym (counted-from (omega (arith, grows))) ∙ count-at n′ h
+
+  -- its place: past the text, and within the room
+  pub counted : n′ ≤ 65536 → n′ ≡ n + lengthOf es
+  counted h = tally-done limit room es n n′ (tallied h) .1
+
+  pub inside : n ≤ room → n′ ≤ 65536 → n′ ≤ room
+  inside g h = tally-room limit room es n n′ g (tallied h)
+
+  -- and all of its text is laid
+  pub laid : n′ ≤ 65536 → l′ ≡ overlay n (textOf es) l
+  laid h =
+      w .text
+      ∙ ap (λ (t : List ℕ). overlay n t l)
+      (take-all (reachOf (countAt n′) - n) (textOf es) (omega (arith, reach-at n′ h, counted h, length-text es)))
+
+  -- of any run: how far the text came at most, and where no byte is laid
+  pub came : reachOf (countAt n′) - n ≤ lengthOf es
+  came =
+      elim (decLt 65536 n) [
+        | yes h ↦ omega (arith, stays h, reach-past n h, ap (λ (k : ℕ). reachOf (countAt k)) (stays h))
+        | no h ↦ omega (arith, ap reachOf (counted-from (omega arith)), reach-most limit room es n)
+      ]
+
+  pub kept : length l′ ≡ length l
+  kept = ap length (w .text) ∙ length-overlay n _ l
+
+  pub before : take n l′ ≡ take n l
+  before = ap (λ (t : List ℕ). take n t) (w .text) ∙ overlay-before n n _ l (omega arith)
+
+  pub behind : (m : ℕ) → n ≤ m → reachOf (countAt n′) ≤ m → drop m l′ ≡ drop m l
+  behind m g h = ap (λ (t : List ℕ). drop m t) (w .text) ∙ overlay-behind m n _ l (simp length-take (omega arith))
 
 module _ {limit room : ℕ} where
   -- ## One after the other
 
   pub room-kept : {es : List Event} {l l′ : List ℕ} {n n′ : ℕ} → Ran limit room es l n l′ n′ → Room l room → Room l′ room
-  room-kept w r = record { within = omega (arith, w .kept, r .within); small = r .small }
+  room-kept w r = record { within = omega (arith, kept w, r .within); small = r .small }
 
   pub nothing : {l : List ℕ} {n : ℕ} → Ran limit room [] l n l n
-  unfolding tally textOf lengthOf
-  nothing {l} {n} =
-      record { count = refl; grows = omega arith; kept = refl; next = λ h. omega arith; text = λ h. sym (overlay-nil n l) }
+  unfolding tally textOf
+  nothing {l} {n} = record { count = refl; text = sym (rw take-nil (overlay-nil n l)) }
 
   infixl 20 _then_
   pub _then_ : {a b : List Event} {l l′ l″ : List ℕ} {n n′ n″ : ℕ} → Ran limit room a l n l′ n′ → Ran limit room b l′ n′ l″ n″ → Ran limit room (a ++ b) l n l″ n″
   _then_ {a} {b} {l} {l′} {l″} {n} {n′} {n″} v w =
       record {
         count = w .count ∙ ap (tally limit room b) (v .count) ∙ sym (tally-join limit room a b (countAt n));
-        grows = omega (arith, v .grows, w .grows);
-        kept = w .kept ∙ v .kept;
-        next = λ h. rw length-join (omega (arith, v .next (near h), w .next (there h)));
-        text = λ h. rw (text-join, overlay-append, length-text) (w .text (there h) ∙ cc (v .text (near h), v .next (near h)));
+        text = elim (decLt 65536 n′) [ yes h ↦ over h | no h ↦ onward (omega arith) ];
       }
     where
-      near : n″ ≤ length l → n′ ≤ length l
-      near h = omega (arith, w .grows)
+      reach : ℕ
+      reach = reachOf (countAt n″)
 
-      there : n″ ≤ length l → n″ ≤ length l′
-      there h = omega (arith, v .kept)
+      -- the first was refused: nothing more comes
+      over : 65536 < n′ → l″ ≡ overlay n (take (reach - n) (textOf (a ++ b))) l
+      over h =
+          let e : n″ ≡ n′ = stays w h in
+          let none : reach - n′ ≡ 0 = rw e (reach-past n′ h) in
+          let still : l″ ≡ l′ = rw (none, overlay-nil) at (w .text) in
+          let same : reachOf (countAt n′) ≡ reach = rw e refl in
+          let first : take (reach - n) (textOf (a ++ b)) ≡ take (reach - n) (textOf a) = rw text-join (take-append-le (reach - n) (textOf a) (textOf b) (omega (arith, came v, length-text a))) in
+          still ∙ rw (same, ← first) at (v .text)
+
+      -- the first came to its end, within the room or with no byte
+      far : n′ ≤ 65536 → n′ ≡ n + length (textOf a) → reach - n ≡ length (textOf a) + (reach - n′)
+      far h e =
+          elim (decLt room n) [
+            | yes g ↦ omega (arith, no-room limit room a n n′ g (tallied v h))
+            | no g ↦ omega (arith, ap reachOf (counted-from w h), reach-least limit room b n′ (inside v (omega arith) h))
+          ]
+
+      onward : n′ ≤ 65536 → l″ ≡ overlay n (take (reach - n) (textOf (a ++ b))) l
+      onward h =
+          let e : n′ ≡ n + length (textOf a) = omega (arith, counted v h, length-text a) in
+          let t = take (reach - n′) (textOf b) in
+          let all : overlay n (take (reach - n) (textOf (a ++ b))) l ≡ overlay (n + length (textOf a)) t (overlay n (textOf a) l) = rw (text-join, far h e, take-append-add, overlay-append) in
+          w .text ∙ cc (laid v h)
 
   -- ## The same run, told by other events
 
@@ -72,10 +142,7 @@ module _ {limit room : ℕ} where
             w .count
             ∙ by-place (λ c. tally limit room es c ≡ tally limit room fs c) n f
             (λ h. tally-no limit room es _ _ ∙ sym (tally-no limit room fs _ _));
-        grows = w .grows;
-        kept = w .kept;
-        next = λ h. w .next h ∙ ap (λ (k : ℕ). n + k) (sym (length-text es) ∙ ap length t ∙ length-text fs);
-        text = λ h. w .text h ∙ ap (λ (x : List ℕ). overlay n x l) t;
+        text = w .text ∙ ap (λ (x : List ℕ). overlay n (take (reachOf (countAt n′) - n) x) l) t;
       }
 
   pub joined : {a b : List ℕ} {es : List Event} {l l′ : List ℕ} {n n′ : ℕ} → Ran limit room (write (put a) ∷ write (put b) ∷ es) l n l′ n′ → Ran limit room (write (put (a ++ b)) ∷ es) l n l′ n′
@@ -110,32 +177,57 @@ module _ {limit room : ℕ} where
   pub checks-hold : {k : ℕ} {es : List Event} {l l′ : List ℕ} {n n′ : ℕ} → Ran limit room es l n l′ n′ → Ran limit room (check true k ∷ es) l n l′ n′
   checks-hold w = checks-hold-after [] _ _ w
 
-  -- a write that has its place in the list
-  pub placed : {t l l′ : List ℕ} {n r : ℕ} → l′ ≡ overlay n t l → r ≡ n + length t → r ≤ length l → Room l room → Ran limit room (write (put t) ∷ []) l n l′ r
-  placed {t} {l} {l′} {n} {r} b e h g =
+  -- ## A write, of which the bytes that have a place in the list are laid
+
+  -- there is room for all of them
+  pub fitting : {t l l′ : List ℕ} {n r : ℕ} → l′ ≡ overlay n t l → r ≡ n + length t → r ≤ room → room ≤ 65536 → Ran limit room (write (put t) ∷ []) l n l′ r
+  fitting {t} {l} {l′} {n} {r} b e h g =
       record {
-        count = put-counted limit room t n r e (omega (arith, g .within)) (g .small);
-        grows = omega arith;
-        kept = ap length b ∙ length-overlay n t l;
-        next = λ k. e ∙ ap (λ (m : ℕ). n + m) (sym (ap length (text-one t)) ∙ length-text (write (put t) ∷ []));
-        text = λ k. b ∙ ap (λ (x : List ℕ). overlay n x l) (sym (text-one t));
+        count = put-counted limit room t n r e h g;
+        text = b ∙ ap (λ (x : List ℕ). overlay n x l) (sym (rw (text-one t) (take-all (reachOf (countAt r) - n) t (omega (arith, reach-at r (omega arith))))));
       }
 
-  -- events that end past the list
-  pub past : {es : List Event} {l : List ℕ} {n r : ℕ} → countAt r ≡ tally limit room es (countAt n) → n ≤ r → length l < r → Ran limit room es l n l r
-  past c g h = record { count = c; grows = g; kept = refl; next = λ k. absurd (omega arith); text = λ k. absurd (omega arith) }
+  pub placed : {t l l′ : List ℕ} {n r : ℕ} → l′ ≡ overlay n t l → r ≡ n + length t → r ≤ length l → Room l room → Ran limit room (write (put t) ∷ []) l n l′ r
+  placed b e h g = fitting b e (omega (arith, g .within)) (g .small)
 
-  pub refused-stays : {es : List Event} {l : List ℕ} {n : ℕ} → 65536 < n → length l ≤ 65536 → Ran limit room es l n l n
-  refused-stays {es} {l} {n} h g =
-      past (by-place (λ c. c ≡ tally limit room es c) n (λ k. absurd (omega arith)) (λ k. sym (tally-no limit room es _ _))) (omega arith) (omega arith)
+  -- and so its bytes were laid
+  fitted : {t l l′ : List ℕ} {n r : ℕ} → Ran limit room (write (put t) ∷ []) l n l′ r → n + length t ≤ length l → Room l room → l′ ≡ overlay n t l
+  fitted {t} {l} {l′} {n} {r} w h g =
+      let k = g .within in
+      let e : r ≡ n + length t = same-place (w .count ∙ sym (put-counted limit room t n (n + length t) refl (omega arith) (g .small))) in
+      laid w (omega (arith, g .small)) ∙ ap (λ (x : List ℕ). overlay n x l) (text-one t)
+
+  -- a text whose front, as far as the list goes, was written
+  pub front-written : (k : ℕ) (t : List ℕ) {u l l′ : List ℕ} {n r : ℕ} → Ran limit room (write (put u) ∷ []) l n l′ r → u ≡ take k t → k ≤ length t → n + k ≡ length l → Room l room → l′ ≡ overlay n t l
+  front-written k t {u} {l} {l′} {n} {r} w e h g q =
+      fitted w (rw e (simp length-take (omega arith))) q ∙ overlay-front-of n k t u l (omega arith) e
+
+  -- the text comes to the end of the list, or begins behind it
+  pub clipped : {t l l′ : List ℕ} {n r : ℕ} → countAt r ≡ tally limit room (write (put t) ∷ []) (countAt n) → length l ≤ n + (reachOf (countAt r) - n) → l′ ≡ overlay n t l → Ran limit room (write (put t) ∷ []) l n l′ r
+  clipped {t} {l} {l′} {n} {r} c h b =
+      record { count = c; text = b ∙ sym (rw (text-one t) (overlay-clipped n (reachOf (countAt r) - n) t l h)) }
+
+  -- ## Refusals
+
+  -- events of which no byte comes
+  pub halted : {es : List Event} {l : List ℕ} {n r : ℕ} → countAt r ≡ tally limit room es (countAt n) → reachOf (countAt r) ≤ n → Ran limit room es l n l r
+  halted {es} {l} {n} {r} c h =
+      let z : reachOf (countAt r) - n ≡ 0 = omega arith in
+      record { count = c; text = sym (rw (z, overlay-nil)) }
+
+  pub refused-stays : {es : List Event} {l : List ℕ} {n : ℕ} → 65536 < n → Ran limit room es l n l n
+  refused-stays {es} {n = n} h = halted (refused-counts limit room es n h) (omega (arith, reach-past n h))
+
+  pub refused-clipped : {t l l′ : List ℕ} {n : ℕ} → 65536 < n → length l ≤ 65536 → l′ ≡ overlay n t l → Ran limit room (write (put t) ∷ []) l n l′ n
+  refused-clipped {t} {n = n} h g b = clipped (refused-counts limit room (write (put t) ∷ []) n h) (omega arith) b
 
   -- what follows a failing check doesn't matter
-  pub stopped : {k : ℕ} {es : List Event} {l : List ℕ} {n r : ℕ} → length l ≤ 65536 → Ran limit room (check false k ∷ []) l n l r → Ran limit room (check false k ∷ es) l n l r
-  stopped {k} {es} {l} {n} {r} h w = past (found .1) (w .grows) (omega (arith, found .0))
+  pub stopped : {k : ℕ} {es : List Event} {l : List ℕ} {n r : ℕ} → Ran limit room (check false k ∷ []) l n l r → Ran limit room (check false k ∷ es) l n l r
+  stopped {k} {es} {l} {n} {r} w = halted (found .1) (found .0)
     where
-      found : (65536 < r) × (countAt r ≡ tally limit room (check false k ∷ es) (countAt n))
+      found : (reachOf (countAt r) ≤ n) × (countAt r ≡ tally limit room (check false k ∷ es) (countAt n))
       found =
-          by-place (λ c. countAt r ≡ tally limit room (check false k ∷ []) c → (65536 < r) × (countAt r ≡ tally limit room (check false k ∷ es) c)) n
-          (λ g e. let q = e ∙ stop-first limit room [] k n in (refused-past q, q ∙ sym (stop-first limit room es k n)))
-          (λ g e. let q = e ∙ tally-no limit room (check false k ∷ []) _ _ in (refused-past q, q ∙ sym (tally-no limit room (check false k ∷ es) _ _)))
+          by-place (λ c. countAt r ≡ tally limit room (check false k ∷ []) c → (reachOf (countAt r) ≤ n) × (countAt r ≡ tally limit room (check false k ∷ es) c)) n
+          (λ g e. let q = e ∙ stop-first limit room [] k n in (omega (arith, reach-no r q), q ∙ sym (stop-first limit room es k n)))
+          (λ g e. let q = e ∙ tally-no limit room (check false k ∷ []) _ _ in (omega (arith, reach-no r q), q ∙ sym (tally-no limit room (check false k ∷ es) _ _)))
           (w .count)

@@ -30,10 +30,10 @@ fn refused(number: usize, reach: usize) -> usize
     number * 131072 + reach
 }
 
-// The place after `count` bytes that have no place in the slice.
+// The place after `count` bytes, of which those that have a place in the slice were laid there.
 pub fn missed(at: usize, count: usize, room: usize) -> usize
     requires { ⌜ room ≤ 65536 ⌝ }
-    ensures { λ r. ⌜ ((limit : ℕ) (t l : List ℕ) → length t ≡ count → length l ≤ room → length l < at + count → Ran limit room (event.write (event.put t) ∷ []) l at l r) ⌝ }
+    ensures { λ r. ⌜ ((limit : ℕ) (t l l′ : List ℕ) → length t ≡ count → length l ≤ room → l′ ≡ overlay at t l → Ran limit room (event.write (event.put t) ∷ []) l at l′ r) ⌝ }
 {
     if 65536 < at {
         return at;
@@ -47,7 +47,7 @@ pub fn missed(at: usize, count: usize, room: usize) -> usize
 // The place after a check.
 pub fn checked(at: usize, ok: bool, number: usize) -> usize
     requires { ⌜ (1 ≤ number) × (number ≤ 255) ⌝ }
-    ensures { λ r. ⌜ ((limit room : ℕ) (l : List ℕ) → length l ≤ 65536 → Ran limit room (event.check ok number ∷ []) l at l r) ⌝ }
+    ensures { λ r. ⌜ ((limit room : ℕ) (l : List ℕ) → Ran limit room (event.check ok number ∷ []) l at l r) ⌝ }
 {
     if ok {
         return at;
@@ -80,6 +80,91 @@ fn fill(out: &mut [u8], at: usize, byte: u8, count: usize)
     }
 }
 
+// The bytes that have a place, one by one: of few bytes, whose number is known where it is called, a compiler makes as many stores.
+fn copy_clipped(out: &mut [u8], at: usize, src: &[u8])
+    ensures { λ r. ⌜ now (out .exit) ≡ overlay at (now (src .entry)) (now (out .entry)) ⌝ }
+{
+    if at < out.len() {
+        let left = out.len() - at;
+        let mut i = 0;
+        while i < src.len() {
+            if i < left {
+                out[at + i] = src[i];
+            }
+            i += 1;
+        }
+    }
+}
+
+// ## Writes that don't fit
+// What fits is written by a call of itself, so that a compiler keeps these out of line and the way of a write that fits stays short.
+
+fn put_short(out: &mut [u8], at: usize, room: usize, src: &[u8]) -> usize
+    requires { ⌜ Room (now out) room ⌝ }
+    ensures { λ r. ⌜ ((limit : ℕ) → Ran limit room (event.write (event.put (now (src .entry))) ∷ []) (now (out .entry)) at (now (out .exit)) r) ⌝ }
+{
+    let count = src.len();
+    if fits(at, count, out.len()) {
+        copy(out, at, src);
+        return at + count;
+    }
+    if at < out.len() {
+        let left = out.len() - at;
+        let end = put_short(out, at, room, &src[..left]);
+        return missed(at, count, room);
+    }
+    missed(at, count, room)
+}
+
+pub fn run_short(out: &mut [u8], at: usize, room: usize, byte: u8, count: usize) -> usize
+    requires { ⌜ Room (now out) room ⌝ }
+    ensures { λ r. ⌜ ((limit : ℕ) → Ran limit room (event.write (event.put (replicate count byte)) ∷ []) (now (out .entry)) at (now (out .exit)) r) ⌝ }
+{
+    if fits(at, count, out.len()) {
+        fill(out, at, byte, count);
+        return at + count;
+    }
+    if at < out.len() {
+        let left = out.len() - at;
+        let end = run_short(out, at, room, byte, left);
+        return missed(at, count, room);
+    }
+    missed(at, count, room)
+}
+
+// The number whose last `left` places are the first of the last `count` places of v.
+fn front_places(v: u64, count: usize, left: usize) -> u64
+    requires { ⌜ left ≤ count ⌝ }
+    ensures { λ r. ⌜ places left r ≡ take left (places count v) ⌝ }
+{
+    let mut n = v;
+    let mut k = count;
+    while left < k {
+        n = n / 10;
+        k -= 1;
+    }
+    n
+}
+
+pub fn places_short(out: &mut [u8], at: usize, room: usize, count: usize, v: u64) -> usize
+    requires { ⌜ Room (now out) room ⌝ }
+    ensures { λ r. ⌜ ((limit : ℕ) → Ran limit room (event.write (event.put (places count v)) ∷ []) (now (out .entry)) at (now (out .exit)) r) ⌝ }
+{
+    if fits(at, count, out.len()) {
+        numbers::write_places(out, at, count, v);
+        return at + count;
+    }
+    if at < out.len() {
+        let left = out.len() - at;
+        let end = places_short(out, at, room, left, front_places(v, count, left));
+        return missed(at, count, room);
+    }
+    missed(at, count, room)
+}
+
+// ## Writes
+
+// Few bytes.
 pub fn put(out: &mut [u8], at: usize, room: usize, src: &[u8]) -> usize
     requires { ⌜ Room (now out) room ⌝ }
     ensures { λ r. ⌜ ((limit : ℕ) → Ran limit room (event.write (event.put (now (src .entry))) ∷ []) (now (out .entry)) at (now (out .exit)) r) ⌝ }
@@ -89,7 +174,21 @@ pub fn put(out: &mut [u8], at: usize, room: usize, src: &[u8]) -> usize
         copy(out, at, src);
         return at + count;
     }
+    copy_clipped(out, at, src);
     missed(at, count, room)
+}
+
+// Bytes whose number is known only when it runs.
+pub fn put_slice(out: &mut [u8], at: usize, room: usize, src: &[u8]) -> usize
+    requires { ⌜ Room (now out) room ⌝ }
+    ensures { λ r. ⌜ ((limit : ℕ) → Ran limit room (event.write (event.put (now (src .entry))) ∷ []) (now (out .entry)) at (now (out .exit)) r) ⌝ }
+{
+    let count = src.len();
+    if fits(at, count, out.len()) {
+        copy(out, at, src);
+        return at + count;
+    }
+    put_short(out, at, room, src)
 }
 
 // The bytes of `src` from `from` up to `end`.
@@ -104,19 +203,19 @@ pub fn put_part(
     requires { ⌜ Room (now out) room × (from ≤ end) × (end ≤ length (now src)) ⌝ }
     ensures { λ r. ⌜ ((limit : ℕ) → Ran limit room (event.write (event.put (take (end - from) (drop from (now (src .entry))))) ∷ []) (now (out .entry)) at (now (out .exit)) r) ⌝ }
 {
-    put(out, at, room, &src[from..end])
+    put_slice(out, at, room, &src[from..end])
 }
 
-// A pad that has no place in the slice: tested whole against the limit, then against the room.
-fn missed_pad(at: usize, room: usize, limit: usize, count: usize) -> usize
-    requires { ⌜ room ≤ 65536 ⌝ }
-    ensures { λ r. ⌜ ((byte : ℕ) (l : List ℕ) → length l ≤ room → length l < at + count → Ran limit room (event.write (event.pad byte count) ∷ []) l at l r) ⌝ }
+// A pad that has no place in the slice for all of its bytes: tested whole against the limit, then against the room.
+fn missed_pad(out: &mut [u8], at: usize, room: usize, limit: usize, byte: u8, count: usize) -> usize
+    requires { ⌜ Room (now out) room ⌝ }
+    ensures { λ r. ⌜ Ran limit room (event.write (event.pad byte count) ∷ []) (now (out .entry)) at (now (out .exit)) r ⌝ }
 {
     if 65536 < at {
         return at;
     }
     if fits(at, count, limit) {
-        return missed(at, count, room);
+        return run_short(out, at, room, byte, count);
     }
     refused(3, at)
 }
@@ -129,7 +228,7 @@ pub fn pad(out: &mut [u8], at: usize, room: usize, limit: usize, byte: u8, count
         fill(out, at, byte, count);
         return at + count;
     }
-    missed_pad(at, room, limit, count)
+    missed_pad(out, at, room, limit, byte, count)
 }
 
 // Two decimal digits.
@@ -142,7 +241,7 @@ pub fn put_two(out: &mut [u8], at: usize, room: usize, v: u8) -> usize
         out[at + 1] = numbers::ones(v);
         return at + 2;
     }
-    missed(at, 2, room)
+    places_short(out, at, room, 2, v as u64)
 }
 
 // The last `count` decimal digits of v, with zeros in front where v has fewer.
@@ -154,7 +253,7 @@ pub fn put_places(out: &mut [u8], at: usize, room: usize, count: usize, v: u64) 
         numbers::write_places(out, at, count, v);
         return at + count;
     }
-    missed(at, count, room)
+    places_short(out, at, room, count, v)
 }
 
 // The first `count` bytes of `src`, over those of `out`.

@@ -29,7 +29,7 @@ ranges c = in-range _ _ (c .before .date .ensures []) (c .if1 .left)
 
 returns : tie.Need-returns
 unfolding combinationFields
-returns c = λ upper. failed CombinationDate _ (c .before .before .date .ensures) (c .before .if1 .taken) (c .before .before .before .before .pre) (c .checked .ensures)
+returns c = λ upper. failed CombinationDate _ (c .before .before .date .ensures) (c .before .if1 .taken) (c .checked .ensures)
 
 cast-rem-euclid-100 : tie.Need-cast-rem-euclid-100
 cast-rem-euclid-100 c = widens (c .before .before .before .before .before .args .«record» .year) (search needs)

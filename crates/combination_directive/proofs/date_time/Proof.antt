@@ -29,7 +29,7 @@ ranges c = in-range _ _ (c .before .date-time .ensures []) (c .if1 .left)
 
 returns : tie.Need-returns
 unfolding combinationFields
-returns c = failed CombinationDateTime _ (c .before .before .date-time .ensures) (c .before .if1 .taken) (c .before .before .before .before .pre) (c .checked .ensures)
+returns c = failed CombinationDateTime _ (c .before .before .date-time .ensures) (c .before .if1 .taken) (c .checked .ensures)
 
 day-three-requires : tie.Need-day-three-requires
 day-three-requires c κs = ranges c .0

@@ -28,7 +28,7 @@ ranges c = in-range _ _ (c .before .date .ensures []) (c .if1 .left)
 
 returns : tie.Need-returns
 unfolding combinationFields
-returns c = λ upper. failed CombinationIso8601 _ (c .before .before .date .ensures) (c .before .if1 .taken) (c .before .before .before .before .pre) (c .checked .ensures)
+returns c = λ upper. failed CombinationIso8601 _ (c .before .before .date .ensures) (c .before .if1 .taken) (c .checked .ensures)
 
 tens-requires : tie.Need-tens-requires
 tens-requires c κs = omega (arith, ranges c)

@@ -27,7 +27,7 @@ ranges c = in-range _ _ (c .before .clock .ensures []) (c .if1 .left)
 
 returns : tie.Need-returns
 unfolding combinationFields
-returns c = λ upper. failed CombinationTime12h _ (c .before .before .clock .ensures) (c .before .if1 .taken) (c .before .before .before .before .pre) (c .checked .ensures)
+returns c = λ upper. failed CombinationTime12h _ (c .before .before .clock .ensures) (c .before .if1 .taken) (c .checked .ensures)
 
 hour12-requires : tie.Need-hour12-requires
 hour12-requires c κs = search needs

@@ -25,7 +25,7 @@ ranges c = in-range _ _ (c .before .date .ensures []) (c .if1 .left)
 
 returns : tie.Need-returns
 unfolding combinationFields
-returns c = λ upper. failed CombinationVmsDate _ (c .before .before .date .ensures) (c .before .if1 .taken) (c .before .before .before .before .pre) (c .checked .ensures)
+returns c = λ upper. failed CombinationVmsDate _ (c .before .before .date .ensures) (c .before .if1 .taken) (c .checked .ensures)
 
 month-three-requires : tie.Need-month-three-requires
 month-three-requires c κs = ranges c .0

@@ -1,5 +1,5 @@
 -- A field out of range stops at once; else the pad and the letters.
-use Rattle.text.proofs.RanLaws.{room-short, room-kept}
+use Rattle.text.proofs.RanLaws.{room-kept}
 use Rattle.name_directive.proofs.LetterLaws.{in-range-named}
 use Rattle.name_directive.proofs.RunLaws.{name-failed, named}
 use borrow.Author.Needs.{needs}
@@ -42,8 +42,7 @@ checked-requires c κs = search needs
 returns-2 : tie.Need-returns-2
 returns-2 c =
     let s = c .before .before .before .before in
-    let h = room-short (s .pre .0) in
-    λ zone. name-failed (s .args .name) (s .args .piece) (s .args .«record») zone (c .before .before .in-range .ensures zone) (c .before .if1 .left) h (c .checked .ensures _ _ _ h)
+    λ zone. name-failed (s .args .name) (s .args .piece) (s .args .«record») zone (c .before .before .in-range .ensures zone) (c .before .if1 .left) (c .checked .ensures _ _ _)
 
 pub name-spec : {M : Type 1} → statement M
 name-spec =

@@ -2,7 +2,6 @@
 use mathlib.Core.Path.{ap, _∙_}
 use Rattle.name_directive.specs.Named.{capitals}
 use Rattle.name_directive.proofs.LetterLaws.{in-range-named}
-use Rattle.text.proofs.RanLaws.{room-short}
 use Rattle.name_directive.proofs.RunLaws.{name-failed, plain-named}
 use borrow.Author.Needs.{needs}
 use Rattle.name_directive.proofs.plain_name.Statement.{statement}
@@ -39,8 +38,7 @@ checked-requires c κs = search needs
 returns-2 : tie.Need-returns-2
 returns-2 c =
     let s = c .before .before .before .before in
-    let h = room-short (s .pre .0) in
-    λ zone. name-failed (s .args .name) _ (s .args .«record») zone (c .before .before .in-range .ensures zone) (c .before .if1 .left) h (c .checked .ensures _ _ _ h)
+    λ zone. name-failed (s .args .name) _ (s .args .«record») zone (c .before .before .in-range .ensures zone) (c .before .if1 .left) (c .checked .ensures _ _ _)
 
 pub plain-name-spec : {M : Type 1} → statement M
 plain-name-spec =

@@ -1,5 +1,4 @@
 -- The check, and the name as it is.
-use Rattle.text.proofs.RanLaws.{room-short}
 use Rattle.name_directive.proofs.RunLaws.{zone-empty, plain-zone-named}
 use borrow.Author.Needs.{needs}
 use Rattle.name_directive.proofs.plain_zone_name.Statement.{statement}
@@ -14,10 +13,10 @@ checked-requires c κs = search needs
 returns : tie.Need-returns
 returns c =
     let s = c .before .before .before .before .before in
-    λ r. zone-empty _ r (s .args .zone .now) (c .before .before .time-zone .ensures) (c .if1 .taken) (c .before .checked .ensures _ _ _ (room-short (s .pre .0)))
+    λ r. zone-empty _ r (s .args .zone .now) (c .before .before .time-zone .ensures) (c .if1 .taken) (c .before .checked .ensures _ _ _)
 
-put-requires : tie.Need-put-requires
-put-requires c κs = search needs
+put-slice-requires : tie.Need-put-slice-requires
+put-slice-requires c κs = search needs
 
 same-length : tie.Need-same-length
 same-length c = search needs
@@ -25,9 +24,9 @@ same-length c = search needs
 returns-2 : tie.Need-returns-2
 returns-2 c =
     let s = c .before .before .before .before .before .before .before .before .before in
-    λ r. plain-zone-named r (s .args .zone .now) (c .before .before .before .before .before .before .time-zone .ensures) (c .before .before .before .before .if1 .left) (s .pre .1) (c .before .before .before .before .before .checked .ensures _ _ _ (room-short (s .pre .0))) (c .before .before .put .ensures _)
+    λ r. plain-zone-named r (s .args .zone .now) (c .before .before .before .before .before .before .time-zone .ensures) (c .before .before .before .before .if1 .left) (s .pre .1) (c .before .before .before .before .before .checked .ensures _ _ _) (c .before .before .put-slice .ensures _)
 
 pub plain-zone-name-spec : {M : Type 1} → statement M
 plain-zone-name-spec =
     tie.close
-    (tie.spec time-zone-requires checked-requires returns put-requires same-length returns-2)
+    (tie.spec time-zone-requires checked-requires returns put-slice-requires same-length returns-2)

@@ -1,7 +1,7 @@
 -- One store, or it is missed.
 use mathlib.Core.Path.{refl, sym}
 use native.Mathlib.Omega.{arith}
-use Rattle.text.proofs.OverlayLaws.{overlay-one}
+use Rattle.text.proofs.OverlayLaws.{overlay-one, overlay-past}
 use Rattle.text.proofs.RanLaws.{placed}
 use borrow.Author.Needs.{needs}
 use Rattle.name_directive.proofs.put_byte.Statement.{statement}
@@ -23,7 +23,7 @@ missed-requires : tie.Need-missed-requires
 missed-requires c κs = search needs
 
 returns-2 : tie.Need-returns-2
-returns-2 c = λ limit. c .missed .ensures limit _ _ refl (c .before .before .before .pre .within) (omega arith)
+returns-2 c = λ limit. c .missed .ensures limit _ _ _ refl (c .before .before .before .pre .within) (sym (overlay-past _ _ _ (c .before .if1 .left)))
 
 pub put-byte-spec : {M : Type 1} → statement M
 put-byte-spec =

@@ -1,10 +1,10 @@
--- A text that fits in the slice is laid there byte by byte; one that does not is missed.
+-- A text that fits in the slice is laid there byte by byte; one that does not goes the long way.
 use mathlib.Core.Path.{sym, ap, _∙_}
 use Prim.Native.Nat.{ℕ, _+_}
 use native.Mathlib.Omega.{arith}
 use lib.ListN.{length-map}
 use borrow.Author.Tests.{leb-true}
-use Rattle.text.proofs.PlaceLaws.{fits-yes, fits-no}
+use Rattle.text.proofs.PlaceLaws.{fits-yes}
 use Rattle.text.proofs.RanLaws.{placed}
 use Rattle.name_directive.specs.Named.{byteIn}
 use borrow.Author.Needs.{needs}
@@ -30,14 +30,14 @@ returns c =
     let e = length-map (s .args .src .now) (byteIn (s .args .lowered)) in
     λ limit. placed (c .before .before .copy-cased .ensures) (ap (λ (n : ℕ). s .args .at + n) (sym e)) k (s .pre)
 
-missed-requires : tie.Need-missed-requires
-missed-requires c κs = search needs
+cased-short-requires : tie.Need-cased-short-requires
+cased-short-requires c κs = search needs
+
+same-length-2 : tie.Need-same-length-2
+same-length-2 c = search needs
 
 returns-2 : tie.Need-returns-2
-returns-2 c =
-    let s = c .before .before .before .before .before in
-    let k = fits-no _ _ (c .before .before .fits2 .ensures) (c .before .if1 .left) in
-    λ limit. c .missed .ensures limit _ _ (length-map (s .args .src .now) (byteIn (s .args .lowered))) (s .pre .within) k
+returns-2 c = c .before .before .cased-short .ensures
 
 pub put-cased-spec : {M : Type 1} → statement M
 put-cased-spec =
@@ -48,5 +48,6 @@ put-cased-spec =
     add-result
     same-length
     returns
-    missed-requires
+    cased-short-requires
+    same-length-2
     returns-2)

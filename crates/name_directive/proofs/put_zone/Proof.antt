@@ -27,8 +27,8 @@ returns-2 c =
     let a = c .before .before .before .before .before .before .before .before .args in
     λ limit. said (zone-raised (a .flags) (a .zone .now) (c .before .before .before .before .before .if1 .left) (c .before .before .before .before .if2 .taken)) (c .before .before .put-cased2 .ensures limit)
 
-put-requires : tie.Need-put-requires
-put-requires c κs = search needs
+put-slice-requires : tie.Need-put-slice-requires
+put-slice-requires c κs = search needs
 
 same-length-3 : tie.Need-same-length-3
 same-length-3 c = search needs
@@ -36,7 +36,7 @@ same-length-3 c = search needs
 returns-3 : tie.Need-returns-3
 returns-3 c =
     let a = c .before .before .before .before .before .before .before .before .args in
-    λ limit. said (zone-same (a .flags) (a .zone .now) (c .before .before .before .before .before .if1 .left) (c .before .before .before .before .if2 .left)) (c .before .before .put .ensures limit)
+    λ limit. said (zone-same (a .flags) (a .zone .now) (c .before .before .before .before .before .if1 .left) (c .before .before .before .before .if2 .left)) (c .before .before .put-slice .ensures limit)
 
 pub put-zone-spec : {M : Type 1} → statement M
 put-zone-spec =
@@ -48,6 +48,6 @@ put-zone-spec =
     put-cased-requires-2
     same-length-2
     returns-2
-    put-requires
+    put-slice-requires
     same-length-3
     returns-3)

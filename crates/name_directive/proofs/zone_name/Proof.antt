@@ -1,5 +1,4 @@
 -- The check; of a name that is not empty the pad and the letters.
-use Rattle.text.proofs.RanLaws.{room-short}
 use Rattle.name_directive.proofs.RunLaws.{zone-empty, zone-named}
 use borrow.Author.Needs.{needs}
 use Rattle.name_directive.proofs.zone_name.Statement.{statement}
@@ -14,7 +13,7 @@ checked-requires c κs = search needs
 returns : tie.Need-returns
 returns c =
     let s = c .before .before .before .before .before in
-    λ r. zone-empty _ r (s .args .zone .now) (c .before .before .time-zone .ensures) (c .if1 .taken) (c .before .checked .ensures _ _ _ (room-short (s .pre .0)))
+    λ r. zone-empty _ r (s .args .zone .now) (c .before .before .time-zone .ensures) (c .if1 .taken) (c .before .checked .ensures _ _ _)
 
 string-padding-requires : tie.Need-string-padding-requires
 string-padding-requires c κs = search needs
@@ -28,7 +27,7 @@ same-length c = search needs
 returns-2 : tie.Need-returns-2
 returns-2 c =
     let s = c .before .before .before .before .before .before .before .before .before .before .before .before .before .before in
-    λ r. zone-named (s .args .piece) r (s .args .zone .now) (c .before .before .before .before .before .before .before .before .before .before .before .time-zone .ensures) (c .before .before .before .before .before .before .before .before .before .if1 .left) (c .before .before .before .before .before .before .before .before .before .before .checked .ensures _ _ _ (room-short (s .pre .0))) (c .before .before .before .before .before .before .string-padding .ensures) (c .before .before .put-zone .ensures _)
+    λ r. zone-named (s .args .piece) r (s .args .zone .now) (c .before .before .before .before .before .before .before .before .before .before .before .time-zone .ensures) (c .before .before .before .before .before .before .before .before .before .if1 .left) (c .before .before .before .before .before .before .before .before .before .before .checked .ensures _ _ _) (c .before .before .before .before .before .before .string-padding .ensures) (c .before .before .put-zone .ensures _)
 
 pub zone-name-spec : {M : Type 1} → statement M
 zone-name-spec =

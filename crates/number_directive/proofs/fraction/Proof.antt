@@ -1,5 +1,4 @@
 -- The check, then the digits.
-use native.Mathlib.Omega.{arith}
 use Rattle.text.proofs.RanLaws.{_then_}
 use borrow.Author.Needs.{needs}
 use Rattle.number_directive.proofs.fraction.Statement.{statement}
@@ -15,7 +14,7 @@ same-length : tie.Need-same-length
 same-length c = search needs
 
 returns : tie.Need-returns
-returns c = c .before .before .before .before .checked .ensures _ _ _ (omega arith) then c .before .before .format-nanoseconds .ensures
+returns c = c .before .before .before .before .checked .ensures _ _ _ then c .before .before .format-nanoseconds .ensures
 
 pub fraction-spec : {M : Type 1} → statement M
 fraction-spec =

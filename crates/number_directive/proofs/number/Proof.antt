@@ -18,7 +18,7 @@ checked-requires c κs = search needs
 returns : tie.Need-returns
 returns c =
     let a = c .before .before .before .before .before .args in
-    λ zone. number-failed (a .number) (a .piece) (a .«record») zone (c .before .before .before .value-of .ensures) (not-true _ (c .before .if1 .taken)) (omega arith) (c .checked .ensures _ _ _ (omega arith))
+    λ zone. number-failed (a .number) (a .piece) (a .«record») zone (c .before .before .before .value-of .ensures) (not-true _ (c .before .if1 .taken)) (c .checked .ensures _ _ _)
 
 put-decimal-requires : tie.Need-put-decimal-requires
 put-decimal-requires c κs = search needs

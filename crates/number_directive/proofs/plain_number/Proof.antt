@@ -18,7 +18,7 @@ checked-requires c κs = search needs
 returns : tie.Need-returns
 returns c =
     let a = c .before .before .before .before .before .args in
-    λ limit zone h. number-failed (a .number) _ (a .«record») zone (c .before .before .before .value-of .ensures) (not-true _ (c .before .if1 .taken)) (omega arith) (c .checked .ensures _ _ _ (omega arith))
+    λ limit zone h. number-failed (a .number) _ (a .«record») zone (c .before .before .before .value-of .ensures) (not-true _ (c .before .if1 .taken)) (c .checked .ensures _ _ _)
 
 put-quick-requires : tie.Need-put-quick-requires
 put-quick-requires c κs = search needs

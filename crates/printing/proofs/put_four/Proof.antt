@@ -1,11 +1,10 @@
--- Four stores lay the digits over the slice, or they are missed.
+-- Four stores lay the digits over the slice; where they do not fit they are the last four places.
 use mathlib.Core.Path.{refl, sym}
 use Prim.Native.Nat.{_+_, _≤_}
 use native.Mathlib.Omega.{arith}
 use lib.ListN.{length, length-set}
-use Rattle.rules.proofs.DecimalLaws.{length-places}
 use Rattle.text.proofs.RanLaws.{said, placed}
-use Rattle.text.proofs.PlaceLaws.{fits-yes, fits-no}
+use Rattle.text.proofs.PlaceLaws.{fits-yes}
 use Rattle.printing.proofs.WriteLaws.{overlay-four}
 use Rattle.printing.proofs.FilledLaws.{four-places}
 use borrow.Author.Needs.{needs}
@@ -70,13 +69,14 @@ returns c =
     said (cc (four-places (c .before .before .before .before .before .before .before .args .v) (p .1), c .before .before .before .tens .ensures, c .before .before .ones .ensures, c .before .tens2 .ensures, c .ones2 .ensures))
     (placed (sym (overlay-four _ _ _ _ _ _)) refl (four-fit (c .before .before .before .before)) (p .0))
 
-missed-requires : tie.Need-missed-requires
-missed-requires c κs = search needs
+places-short-requires : tie.Need-places-short-requires
+places-short-requires c κs = search needs
+
+same-length-2 : tie.Need-same-length-2
+same-length-2 c = search needs
 
 returns-2 : tie.Need-returns-2
-returns-2 c =
-    let k = fits-no _ _ (c .before .before .fits2 .ensures) (c .before .if1 .left) in
-    λ limit. c .missed .ensures limit _ _ (length-places 4 (c .before .before .before .before .args .v)) (c .before .before .before .before .pre .0 .within) k
+returns-2 c = c .before .before .places-short .ensures
 
 pub put-four-spec : {M : Type 1} → statement M
 put-four-spec =
@@ -99,5 +99,6 @@ put-four-spec =
     add-result
     same-length
     returns
-    missed-requires
+    places-short-requires
+    same-length-2
     returns-2)

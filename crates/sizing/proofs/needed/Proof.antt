@@ -3,8 +3,9 @@ use mathlib.Core.Path.{sym}
 use lib.ListN.{replicate}
 use lib.Seq.{length-take-le}
 use Rattle.rules.specs.Ascii.{byte}
+use Rattle.text.proofs.OverlayLaws.{take-replicate}
 use Rattle.text.proofs.RanLaws.{same-events}
-use Rattle.sizing.proofs.EntryLaws.{take-replicate, witness-events, measured, unmeasured}
+use Rattle.sizing.proofs.EntryLaws.{witness-events, measured, unmeasured}
 use borrow.Author.Needs.{needs}
 use Rattle.sizing.proofs.needed.Statement.{statement}
 use Rattle.sizing.proofs.needed.Tie as tie

@@ -7,7 +7,8 @@ use lib.Dec.{lit≤}
 use lib.ListN.{length, replicate}
 use lib.Seq.{length-take-le}
 use Rattle.rules.proofs.FormatLaws.{runs, format-too-long, zone-too-long, buffer-too-long, numbered-items}
-use Rattle.text.proofs.EntryLaws.{lent, lent-holds, lent-back, same-end, inside, back}
+use Rattle.text.proofs.RanLaws.{inside}
+use Rattle.text.proofs.EntryLaws.{lent, lent-holds, lent-back, same-end, back}
 use Rattle.strftime.proofs.EntryOutcomes.{declined, refusal-known, refused-there, written-there, copied-there}
 use borrow.Author.Needs.{needs}
 use Rattle.strftime.proofs.format.Statement.{statement}

@@ -1,17 +1,18 @@
 -- A check that holds and a refused place leave the place; a check that fails refuses.
 use mathlib.Core.Path.{sym}
 use native.Mathlib.Omega.{arith}
+use Rattle.text.proofs.PlaceLaws.{reach-no}
 use Rattle.text.proofs.CountLaws.{check-refused}
-use Rattle.text.proofs.RanLaws.{nothing, told, checks-hold, refused-stays, past}
+use Rattle.text.proofs.RanLaws.{nothing, told, checks-hold, refused-stays, halted}
 use borrow.Author.Needs.{needs}
 use Rattle.text.proofs.checked.Statement.{statement}
 use Rattle.text.proofs.checked.Tie as tie
 
 returns : tie.Need-returns
-returns c = λ limit room l h. told (sym (c .if1 .taken)) (checks-hold nothing)
+returns c = λ limit room l. told (sym (c .if1 .taken)) (checks-hold nothing)
 
 returns-2 : tie.Need-returns-2
-returns-2 c = λ limit room l h. refused-stays (c .if2 .taken) h
+returns-2 c = λ limit room l. refused-stays (c .if2 .taken)
 
 refused-requires : tie.Need-refused-requires
 refused-requires c κs = search needs
@@ -19,7 +20,7 @@ refused-requires c κs = search needs
 returns-3 : tie.Need-returns-3
 returns-3 c =
     let e = c .refused .ensures in
-    λ limit room l h. told (sym (c .before .before .if1 .left)) (past (check-refused limit room _ _ _ (c .before .if2 .left) (e .0)) (omega arith) (omega arith))
+    λ limit room l. told (sym (c .before .before .if1 .left)) (halted (check-refused limit room _ _ _ (c .before .if2 .left) (e .0)) (omega (arith, reach-no _ (e .0))))
 
 pub checked-spec : {M : Type 1} → statement M
 checked-spec = tie.close (tie.spec returns returns-2 refused-requires returns-3)

@@ -4,7 +4,7 @@ use native.Mathlib.Omega.{arith}
 use borrow.Author.Tests.{leb-true}
 use lib.ListN.{length-replicate}
 use Rattle.text.proofs.RanLaws.{as-pad, placed}
-use Rattle.text.proofs.PlaceLaws.{fits-yes, fits-no}
+use Rattle.text.proofs.PlaceLaws.{fits-yes}
 use borrow.Author.Needs.{needs}
 use Rattle.text.proofs.pad.Statement.{statement}
 use Rattle.text.proofs.pad.Tie as tie
@@ -30,10 +30,11 @@ returns c =
 missed-pad-requires : tie.Need-missed-pad-requires
 missed-pad-requires c κs = search needs
 
+same-length-2 : tie.Need-same-length-2
+same-length-2 c = search needs
+
 returns-2 : tie.Need-returns-2
-returns-2 c =
-    let k = fits-no _ _ (c .before .before .fits2 .ensures) (c .before .if1 .left) in
-    c .missed-pad .ensures _ _ (c .before .before .before .before .pre .0 .within) k
+returns-2 c = c .before .before .missed-pad .ensures
 
 pub pad-spec : {M : Type 1} → statement M
 pad-spec =
@@ -45,4 +46,5 @@ pad-spec =
     same-length
     returns
     missed-pad-requires
+    same-length-2
     returns-2)

@@ -1,13 +1,12 @@
--- The places laid between what stands in front and behind, or missed.
+-- The places laid between what stands in front and behind; where they do not fit, the long way.
 use mathlib.Core.Path.{sym, ap, _∙_}
 use Prim.Native.Nat.{ℕ, _+_}
 use native.Mathlib.Omega.{arith}
 use borrow.Author.Tests.{leb-true}
-use Rattle.rules.specs.Decimal.{places}
 use Rattle.rules.proofs.DecimalLaws.{length-places}
 use Rattle.text.proofs.OverlayLaws.{overlay-between}
 use Rattle.text.proofs.RanLaws.{placed}
-use Rattle.text.proofs.PlaceLaws.{fits-yes, fits-no}
+use Rattle.text.proofs.PlaceLaws.{fits-yes}
 use borrow.Author.Needs.{needs}
 use Rattle.text.proofs.put_places.Statement.{statement}
 use Rattle.text.proofs.put_places.Tie as tie
@@ -31,14 +30,14 @@ returns c =
     let e = length-places (a .count) (a .v) in
     λ limit. placed (overlay-between _ _ _ _ e k (c .before .before .write-places .ensures)) (ap (λ (n : ℕ). a .at + n) (sym e)) k (c .before .before .before .before .before .before .before .pre)
 
-missed-requires : tie.Need-missed-requires
-missed-requires c κs = search needs
+places-short-requires : tie.Need-places-short-requires
+places-short-requires c κs = search needs
+
+same-length-2 : tie.Need-same-length-2
+same-length-2 c = search needs
 
 returns-2 : tie.Need-returns-2
-returns-2 c =
-    let a = c .before .before .before .before .args in
-    let k = fits-no _ _ (c .before .before .fits2 .ensures) (c .before .if1 .left) in
-    λ limit. c .missed .ensures limit (places (a .count) (a .v)) _ (length-places (a .count) (a .v)) (c .before .before .before .before .pre .within) k
+returns-2 c = c .before .before .places-short .ensures
 
 pub put-places-spec : {M : Type 1} → statement M
 put-places-spec =
@@ -49,5 +48,6 @@ put-places-spec =
     add-result
     same-length
     returns
-    missed-requires
+    places-short-requires
+    same-length-2
     returns-2)

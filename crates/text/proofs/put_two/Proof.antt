@@ -1,12 +1,12 @@
--- Two stores lay the two digits over the slice, or they are missed.
+-- Two stores lay the two digits over the slice; where they do not fit they are the last two places.
 use mathlib.Core.Path.{refl, sym}
 use Prim.Native.Nat.{_+_, _≤_}
 use native.Mathlib.Omega.{arith}
 use lib.ListN.{length, length-set}
-use Rattle.rules.proofs.DecimalLaws.{length-places, two-is}
+use Rattle.rules.proofs.DecimalLaws.{two-is}
 use Rattle.text.proofs.OverlayLaws.{overlay-two}
 use Rattle.text.proofs.RanLaws.{said, placed}
-use Rattle.text.proofs.PlaceLaws.{fits-yes, fits-no}
+use Rattle.text.proofs.PlaceLaws.{fits-yes}
 use borrow.Author.Needs.{needs}
 use Rattle.text.proofs.put_two.Statement.{statement}
 use Rattle.text.proofs.put_two.Tie as tie
@@ -43,13 +43,14 @@ returns c =
     let p = c .before .before .before .before .before .pre in
     λ limit. said (two-is _ (p .1) (c .before .tens .ensures) (c .ones .ensures)) (placed (sym (overlay-two _ _ _ _)) refl (two-fit (c .before .before)) (p .0))
 
-missed-requires : tie.Need-missed-requires
-missed-requires c κs = search needs
+places-short-requires : tie.Need-places-short-requires
+places-short-requires c κs = search needs
+
+same-length-2 : tie.Need-same-length-2
+same-length-2 c = search needs
 
 returns-2 : tie.Need-returns-2
-returns-2 c =
-    let k = fits-no _ _ (c .before .before .fits2 .ensures) (c .before .if1 .left) in
-    λ limit. c .missed .ensures limit _ _ (length-places 2 (c .before .before .before .before .args .v)) (c .before .before .before .before .pre .0 .within) k
+returns-2 c = c .before .before .places-short .ensures
 
 pub put-two-spec : {M : Type 1} → statement M
 put-two-spec =
@@ -64,5 +65,6 @@ put-two-spec =
     add-result
     same-length
     returns
-    missed-requires
+    places-short-requires
+    same-length-2
     returns-2)

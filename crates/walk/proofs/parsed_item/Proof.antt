@@ -28,7 +28,7 @@ returns c =
     let s = c .before .before .before .before .before .before .before in
     let p = c .before .before .before .parse-spec in
     step-cut _ (s .pre .2) refl (items-at _ _ .percent (s .pre .2) (s .pre .3) _ (sym (p .ensures) ∙ only-cut (p .result) (c .before .before .match .keys2) (c .before .match2 .keys2)))
-    (c .checked .ensures _ _ _ (omega arith))
+    (c .checked .ensures _ _ _)
 
 put-part-requires : tie.Need-put-part-requires
 put-part-requires c κs =

@@ -2,7 +2,7 @@
 use Prim.Native.Nat.{_-_}
 use native.Mathlib.Omega.{arith}
 use lib.ListN.{length}
-use Rattle.text.proofs.RanLaws.{room-kept}
+use Rattle.text.proofs.RanLaws.{kept, room-kept}
 use Rattle.reading.proofs.Positions.{items-at}
 use Rattle.walk.proofs.WalkLaws.{Walked, walk-start, walk-item, walk-literals, walk-end}
 use borrow.Author.Needs.{needs}
@@ -51,7 +51,7 @@ loop-again-2 c =
     walk-literals (c .before .before .before .before .before .before .before .before .loop .inv) (items-at _ _ .run (c .before .before .before .before .before .before .before .loop-test .taken) (c .before .before .before .before .before .if1 .left) _ (c .before .before .before .before .literal-end .ensures)) (c .before .before .put-part .ensures _)
 
 same-length : tie.Need-same-length Inv-loop μ-loop
-same-length c = c .before .loop .inv .ran .kept
+same-length c = kept (c .before .loop .inv .ran)
 
 returns : tie.Need-returns Inv-loop μ-loop
 returns c = walk-end (c .loop-test .left) (c .before .loop .inv)
