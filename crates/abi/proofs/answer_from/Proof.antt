@@ -5,17 +5,8 @@ use borrow.Author.Needs.{needs}
 use Rattle.abi.proofs.answer_from.Statement.{statement}
 use Rattle.abi.proofs.answer_from.Tie as tie
 
-enum-known-answer : tie.Need-enum-known-answer
-enum-known-answer c = search needs
-
 cast-t5 : tie.Need-cast-t5
 cast-t5 c = record { fits = omega (arith, from-small _ (c .before .answer .given .1) (c .before .before .before .pre)) }
-
-enum-known-answer-2 : tie.Need-enum-known-answer-2
-enum-known-answer-2 c = search needs
-
-number-of-requires : tie.Need-number-of-requires
-number-of-requires c κs = search needs
 
 returns : tie.Need-returns
 returns c = from-done _ (c .before .answer .given .1)
@@ -25,5 +16,4 @@ returns-2 c = from-refused _ (c .before .before .answer2 .given .1) (c .number-o
 
 pub answer-from-spec : {M : Type 1} → statement M
 answer-from-spec =
-    tie.close
-    (tie.spec enum-known-answer cast-t5 enum-known-answer-2 number-of-requires returns returns-2)
+    tie.close (tie.spec (λ c. search needs) cast-t5 (λ c. search needs) (λ c κs. search needs) returns returns-2)

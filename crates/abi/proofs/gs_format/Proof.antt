@@ -4,17 +4,8 @@ use borrow.Author.Needs.{needs}
 use Rattle.abi.proofs.gs_format.Statement.{statement}
 use Rattle.abi.proofs.gs_format.Tie as tie
 
-record-from-requires : tie.Need-record-from-requires
-record-from-requires c κs = search needs
-
-format-requires : tie.Need-format-requires
-format-requires c κs = search needs
-
 answer-from-requires : tie.Need-answer-from-requires
 answer-from-requires c κs = same-small (c .before .before .format .ensures .0) (report-small _ _ _ _)
-
-same-length : tie.Need-same-length
-same-length c = search needs
 
 returns : tie.Need-returns
 returns c =
@@ -23,5 +14,4 @@ returns c =
 
 pub gs-format-spec : {M : Type 1} → statement M
 gs-format-spec =
-    tie.close
-    (tie.spec record-from-requires format-requires answer-from-requires same-length returns)
+    tie.close (tie.spec (λ c κs. search needs) (λ c κs. search needs) answer-from-requires (λ c. search needs) returns)

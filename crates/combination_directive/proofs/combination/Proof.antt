@@ -8,21 +8,6 @@ use borrow.Author.Needs.{needs}
 use Rattle.combination_directive.proofs.combination.Statement.{statement}
 use Rattle.combination_directive.proofs.combination.Tie as tie
 
-contains-requires : tie.Need-contains-requires
-contains-requires c κs = search needs
-
-combination-length-requires : tie.Need-combination-length-requires
-combination-length-requires c κs = search needs
-
-write-padding-requires : tie.Need-write-padding-requires
-write-padding-requires c κs = search needs
-
-combined-requires : tie.Need-combined-requires
-combined-requires c κs = search needs
-
-same-length : tie.Need-same-length
-same-length c = search needs
-
 returns : tie.Need-returns
 returns c =
     let a = c .before .before .before .before .before .before .before .before .before .before .before .before .before .args in
@@ -30,11 +15,5 @@ returns c =
 
 pub combination-spec : {M : Type 1} → statement M
 combination-spec =
-    tie.close
-    (tie.spec
-    contains-requires
-    combination-length-requires
-    write-padding-requires
-    combined-requires
-    same-length
-    returns)
+    tie.close (tie.spec (λ c κs. search needs) (λ c κs. search needs) (λ c κs. search needs) (λ c κs. search needs)
+    (λ c. search needs) returns)

@@ -9,44 +9,14 @@ use Rattle.combination_directive.proofs.LengthLaws.{known-length, year-
 use Rattle.combination_directive.proofs.combination_length.Statement.{statement}
 use Rattle.combination_directive.proofs.combination_length.Tie as tie
 
-enum-told : tie.Need-enum-told
-enum-told c = search needs
-
-year-text-length-requires : tie.Need-year-text-length-requires
-year-text-length-requires c κs = search needs
-
 add-result : tie.Need-add-result
 add-result c = omega (arith, year-short yearWidth _ (c .before .before .before .fits .year) (c .year-text-length .ensures) year-narrow)
-
-enum-told-2 : tie.Need-enum-told-2
-enum-told-2 c = search needs
-
-enum-told-3 : tie.Need-enum-told-3
-enum-told-3 c = search needs
-
-year-text-length-requires-2 : tie.Need-year-text-length-requires-2
-year-text-length-requires-2 c κs = search needs
 
 add-result-2 : tie.Need-add-result-2
 add-result-2 c = omega (arith, year-short yearWidth _ (c .before .before .before .fits .year) (c .year-text-length2 .ensures) year-narrow)
 
-enum-told-4 : tie.Need-enum-told-4
-enum-told-4 c = search needs
-
-year-length-requires : tie.Need-year-length-requires
-year-length-requires c κs = search needs
-
 add-result-3 : tie.Need-add-result-3
 add-result-3 c = omega (arith, year-short (λ year. 4) _ (c .before .before .before .fits .year) (c .year-length .ensures) (λ z. omega arith))
-
-enum-told-5 : tie.Need-enum-told-5
-enum-told-5 c = search needs
-
-enum-told-6 : tie.Need-enum-told-6
-enum-told-6 c = search needs
-
-enum-told-7 : tie.Need-enum-told-7
-enum-told-7 c = search needs
 
 returns : tie.Need-returns
 unfolding combinationLength
@@ -78,25 +48,6 @@ returns-7 c = known-length _ (c .enum-told7 .given .1) refl
 
 pub combination-length-spec : {M : Type 1} → statement M
 combination-length-spec =
-    tie.close
-    (tie.spec
-    enum-told
-    year-text-length-requires
-    add-result
-    enum-told-2
-    enum-told-3
-    year-text-length-requires-2
-    add-result-2
-    enum-told-4
-    year-length-requires
-    add-result-3
-    enum-told-5
-    enum-told-6
-    enum-told-7
-    returns
-    returns-2
-    returns-3
-    returns-4
-    returns-5
-    returns-6
-    returns-7)
+    tie.close (tie.spec (λ c. search needs) (λ c κs. search needs) add-result (λ c. search needs) (λ c. search needs)
+    (λ c κs. search needs) add-result-2 (λ c. search needs) (λ c κs. search needs) add-result-3 (λ c. search needs)
+    (λ c. search needs) (λ c. search needs) returns returns-2 returns-3 returns-4 returns-5 returns-6 returns-7)

@@ -18,12 +18,6 @@ use borrow.Author.Needs.{needs}
 use Rattle.combination_directive.proofs.date.Statement.{statement}
 use Rattle.combination_directive.proofs.date.Tie as tie
 
-date-requires : tie.Need-date-requires
-date-requires c κs = search needs
-
-checked-requires : tie.Need-checked-requires
-checked-requires c κs = search needs
-
 ranges : (c : tie.Else1) → Each (month ∷ day ∷ []) (c .before .before .before .args .«record»)
 ranges c = in-range _ _ (c .before .date .ensures []) (c .if1 .left)
 
@@ -34,9 +28,6 @@ returns c = λ upper. failed CombinationDate _ (c .before .before .date .ensures
 cast-rem-euclid-100 : tie.Need-cast-rem-euclid-100
 cast-rem-euclid-100 c = widens (c .before .before .before .before .before .args .«record» .year) (search needs)
 
-rem-euclid-100-requires : tie.Need-rem-euclid-100-requires
-rem-euclid-100-requires c κs = search needs
-
 year-is : (c : tie.After-rem-euclid-100) → c .rem-euclid-100 .result ≡ floorMod (c .before .before .before .before .before .before .args .«record» .year) 100
 year-is c = c .rem-euclid-100 .ensures ∙ ap (λ (y : ℤ). floorMod y 100) (widened (c .before .before .before .before .before .before .args .«record» .year) (search needs))
 
@@ -46,29 +37,11 @@ below c = omega (arith, year-is c, mod-below (c .before .before .before .before 
 tens-requires : tie.Need-tens-requires
 tens-requires c κs = omega (arith, ranges (c .before .before .before))
 
-ones-requires : tie.Need-ones-requires
-ones-requires c κs = search needs
-
 tens-requires-2 : tie.Need-tens-requires-2
 tens-requires-2 c κs = omega (arith, ranges (c .before .before .before .before .before))
 
-ones-requires-2 : tie.Need-ones-requires-2
-ones-requires-2 c κs = search needs
-
 tens-requires-3 : tie.Need-tens-requires-3
 tens-requires-3 c κs = below (c .before .before .before .before)
-
-ones-requires-3 : tie.Need-ones-requires-3
-ones-requires-3 c κs = search needs
-
-slice-aggregate-put : tie.Need-slice-aggregate-put
-slice-aggregate-put c = search needs
-
-put-requires : tie.Need-put-requires
-put-requires c κs = search needs
-
-same-length : tie.Need-same-length
-same-length c = search needs
 
 months : (c : tie.After-ones) → c .before .tens .result ∷ c .ones .result ∷ [] ≡ two (c .before .before .before .before .before .before .before .before .args .«record» .month)
 months c = two-is _ (omega (arith, ranges (c .before .before .before .before .before))) (c .before .tens .ensures) (c .ones .ensures)
@@ -89,20 +62,6 @@ returns-2 c =
 
 pub date-spec : {M : Type 1} → statement M
 date-spec =
-    tie.close
-    (tie.spec
-    date-requires
-    checked-requires
-    returns
-    cast-rem-euclid-100
-    rem-euclid-100-requires
-    tens-requires
-    ones-requires
-    tens-requires-2
-    ones-requires-2
-    tens-requires-3
-    ones-requires-3
-    slice-aggregate-put
-    put-requires
-    same-length
-    returns-2)
+    tie.close (tie.spec (λ c κs. search needs) (λ c κs. search needs) returns cast-rem-euclid-100 (λ c κs. search needs)
+    tens-requires (λ c κs. search needs) tens-requires-2 (λ c κs. search needs) tens-requires-3 (λ c κs. search needs)
+    (λ c. search needs) (λ c κs. search needs) (λ c. search needs) returns-2)

@@ -17,12 +17,6 @@ use borrow.Author.Needs.{needs}
 use Rattle.combination_directive.proofs.date_time.Statement.{statement}
 use Rattle.combination_directive.proofs.date_time.Tie as tie
 
-date-time-requires : tie.Need-date-time-requires
-date-time-requires c κs = search needs
-
-checked-requires : tie.Need-checked-requires
-checked-requires c κs = search needs
-
 ranges : (c : tie.Else1) → Each (weekday ∷ month ∷ day ∷ hour ∷ minute ∷ second ∷ []) (c .before .before .before .args .«record»)
 unfolding combinationFields
 ranges c = in-range _ _ (c .before .date-time .ensures []) (c .if1 .left)
@@ -40,38 +34,14 @@ month-three-requires c κs = ranges (c .before) .1 .0
 spaced-tens-requires : tie.Need-spaced-tens-requires
 spaced-tens-requires c κs = omega (arith, ranges (c .before .before))
 
-ones-requires : tie.Need-ones-requires
-ones-requires c κs = search needs
-
 tens-requires : tie.Need-tens-requires
 tens-requires c κs = omega (arith, ranges (c .before .before .before .before))
-
-ones-requires-2 : tie.Need-ones-requires-2
-ones-requires-2 c κs = search needs
 
 tens-requires-2 : tie.Need-tens-requires-2
 tens-requires-2 c κs = omega (arith, ranges (c .before .before .before .before .before .before))
 
-ones-requires-3 : tie.Need-ones-requires-3
-ones-requires-3 c κs = search needs
-
 tens-requires-3 : tie.Need-tens-requires-3
 tens-requires-3 c κs = omega (arith, ranges (c .before .before .before .before .before .before .before .before))
-
-ones-requires-4 : tie.Need-ones-requires-4
-ones-requires-4 c κs = search needs
-
-slice-aggregate-put : tie.Need-slice-aggregate-put
-slice-aggregate-put c = search needs
-
-put-requires : tie.Need-put-requires
-put-requires c κs = search needs
-
-put-year-requires : tie.Need-put-year-requires
-put-year-requires c κs = search needs
-
-same-length : tie.Need-same-length
-same-length c = search needs
 
 days : (c : tie.After-ones) → c .before .spaced-tens .result ∷ c .ones .result ∷ [] ≡ dayText (c .before .before .before .before .before .before .before .args .«record» .day)
 days c = spaced-pair _ (omega (arith, ranges (c .before .before .before .before))) (c .before .spaced-tens .ensures) (c .ones .ensures)
@@ -95,23 +65,7 @@ returns-2 c =
 
 pub date-time-spec : {M : Type 1} → statement M
 date-time-spec =
-    tie.close
-    (tie.spec
-    date-time-requires
-    checked-requires
-    returns
-    day-three-requires
-    month-three-requires
-    spaced-tens-requires
-    ones-requires
-    tens-requires
-    ones-requires-2
-    tens-requires-2
-    ones-requires-3
-    tens-requires-3
-    ones-requires-4
-    slice-aggregate-put
-    put-requires
-    put-year-requires
-    same-length
-    returns-2)
+    tie.close (tie.spec (λ c κs. search needs) (λ c κs. search needs) returns day-three-requires month-three-requires
+    spaced-tens-requires (λ c κs. search needs) tens-requires (λ c κs. search needs) tens-requires-2
+    (λ c κs. search needs) tens-requires-3 (λ c κs. search needs) (λ c. search needs) (λ c κs. search needs)
+    (λ c κs. search needs) (λ c. search needs) returns-2)

@@ -17,12 +17,6 @@ use borrow.Author.Needs.{needs}
 use Rattle.combination_directive.proofs.iso8601.Statement.{statement}
 use Rattle.combination_directive.proofs.iso8601.Tie as tie
 
-date-requires : tie.Need-date-requires
-date-requires c κs = search needs
-
-checked-requires : tie.Need-checked-requires
-checked-requires c κs = search needs
-
 ranges : (c : tie.Else1) → Each (month ∷ day ∷ []) (c .before .before .before .args .«record»)
 ranges c = in-range _ _ (c .before .date .ensures []) (c .if1 .left)
 
@@ -33,26 +27,8 @@ returns c = λ upper. failed CombinationIso8601 _ (c .before .before .date .ensu
 tens-requires : tie.Need-tens-requires
 tens-requires c κs = omega (arith, ranges c)
 
-ones-requires : tie.Need-ones-requires
-ones-requires c κs = search needs
-
 tens-requires-2 : tie.Need-tens-requires-2
 tens-requires-2 c κs = omega (arith, ranges (c .before .before))
-
-ones-requires-2 : tie.Need-ones-requires-2
-ones-requires-2 c κs = search needs
-
-put-year-requires : tie.Need-put-year-requires
-put-year-requires c κs = search needs
-
-slice-aggregate-put : tie.Need-slice-aggregate-put
-slice-aggregate-put c = search needs
-
-put-requires : tie.Need-put-requires
-put-requires c κs = search needs
-
-same-length : tie.Need-same-length
-same-length c = search needs
 
 months : (c : tie.After-ones) → c .before .tens .result ∷ c .ones .result ∷ [] ≡ two (c .before .before .before .before .before .args .«record» .month)
 months c = two-is _ (omega (arith, ranges (c .before .before))) (c .before .tens .ensures) (c .ones .ensures)
@@ -71,17 +47,6 @@ returns-2 c =
 
 pub iso8601-spec : {M : Type 1} → statement M
 iso8601-spec =
-    tie.close
-    (tie.spec
-    date-requires
-    checked-requires
-    returns
-    tens-requires
-    ones-requires
-    tens-requires-2
-    ones-requires-2
-    put-year-requires
-    slice-aggregate-put
-    put-requires
-    same-length
-    returns-2)
+    tie.close (tie.spec (λ c κs. search needs) (λ c κs. search needs) returns tens-requires (λ c κs. search needs)
+    tens-requires-2 (λ c κs. search needs) (λ c κs. search needs) (λ c. search needs) (λ c κs. search needs)
+    (λ c. search needs) returns-2)

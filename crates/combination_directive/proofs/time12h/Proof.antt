@@ -16,12 +16,6 @@ use borrow.Author.Needs.{needs}
 use Rattle.combination_directive.proofs.time12h.Statement.{statement}
 use Rattle.combination_directive.proofs.time12h.Tie as tie
 
-clock-requires : tie.Need-clock-requires
-clock-requires c κs = search needs
-
-checked-requires : tie.Need-checked-requires
-checked-requires c κs = search needs
-
 ranges : (c : tie.Else1) → Each (hour ∷ minute ∷ second ∷ []) (c .before .before .before .args .«record»)
 ranges c = in-range _ _ (c .before .clock .ensures []) (c .if1 .left)
 
@@ -29,41 +23,17 @@ returns : tie.Need-returns
 unfolding combinationFields
 returns c = λ upper. failed CombinationTime12h _ (c .before .before .clock .ensures) (c .before .if1 .taken) (c .checked .ensures)
 
-hour12-requires : tie.Need-hour12-requires
-hour12-requires c κs = search needs
-
 below : (c : tie.After-hour12) → c .hour12 .result < 100
 below c = omega (arith, c .hour12 .ensures, hour12-below (c .before .before .before .before .args .«record» .hour))
 
 tens-requires : tie.Need-tens-requires
 tens-requires c κs = below c
 
-ones-requires : tie.Need-ones-requires
-ones-requires c κs = search needs
-
 tens-requires-2 : tie.Need-tens-requires-2
 tens-requires-2 c κs = omega (arith, ranges (c .before .before .before))
 
-ones-requires-2 : tie.Need-ones-requires-2
-ones-requires-2 c κs = search needs
-
 tens-requires-3 : tie.Need-tens-requires-3
 tens-requires-3 c κs = omega (arith, ranges (c .before .before .before .before .before))
-
-ones-requires-3 : tie.Need-ones-requires-3
-ones-requires-3 c κs = search needs
-
-half-requires : tie.Need-half-requires
-half-requires c κs = search needs
-
-slice-aggregate-put : tie.Need-slice-aggregate-put
-slice-aggregate-put c = search needs
-
-put-requires : tie.Need-put-requires
-put-requires c κs = search needs
-
-same-length : tie.Need-same-length
-same-length c = search needs
 
 hours : (c : tie.After-ones) → c .before .tens .result ∷ c .ones .result ∷ [] ≡ two (hour12 (c .before .before .before .before .before .before .args .«record» .hour))
 hours c = two-is _ (below (c .before .before)) (c .before .tens .ensures) (c .ones .ensures) ∙ ap two (c .before .before .hour12 .ensures)
@@ -85,20 +55,6 @@ returns-2 c =
 
 pub time12h-spec : {M : Type 1} → statement M
 time12h-spec =
-    tie.close
-    (tie.spec
-    clock-requires
-    checked-requires
-    returns
-    hour12-requires
-    tens-requires
-    ones-requires
-    tens-requires-2
-    ones-requires-2
-    tens-requires-3
-    ones-requires-3
-    half-requires
-    slice-aggregate-put
-    put-requires
-    same-length
-    returns-2)
+    tie.close (tie.spec (λ c κs. search needs) (λ c κs. search needs) returns (λ c κs. search needs) tens-requires
+    (λ c κs. search needs) tens-requires-2 (λ c κs. search needs) tens-requires-3 (λ c κs. search needs)
+    (λ c κs. search needs) (λ c. search needs) (λ c κs. search needs) (λ c. search needs) returns-2)

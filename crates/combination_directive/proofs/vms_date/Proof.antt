@@ -14,12 +14,6 @@ use borrow.Author.Needs.{needs}
 use Rattle.combination_directive.proofs.vms_date.Statement.{statement}
 use Rattle.combination_directive.proofs.vms_date.Tie as tie
 
-date-requires : tie.Need-date-requires
-date-requires c κs = search needs
-
-checked-requires : tie.Need-checked-requires
-checked-requires c κs = search needs
-
 ranges : (c : tie.Else1) → Each (month ∷ day ∷ []) (c .before .before .before .args .«record»)
 ranges c = in-range _ _ (c .before .date .ensures []) (c .if1 .left)
 
@@ -33,23 +27,8 @@ month-three-requires c κs = ranges c .0
 spaced-tens-requires : tie.Need-spaced-tens-requires
 spaced-tens-requires c κs = omega (arith, ranges (c .before))
 
-ones-requires : tie.Need-ones-requires
-ones-requires c κs = search needs
-
-slice-aggregate-put : tie.Need-slice-aggregate-put
-slice-aggregate-put c = search needs
-
-put-requires : tie.Need-put-requires
-put-requires c κs = search needs
-
 cast-put-decimal : tie.Need-cast-put-decimal
 cast-put-decimal c = widens (c .before .before .before .before .before .before .before .before .before .before .before .before .before .before .args .«record» .year) (search needs)
-
-put-decimal-requires : tie.Need-put-decimal-requires
-put-decimal-requires c κs = search needs
-
-same-length : tie.Need-same-length
-same-length c = search needs
 
 days : (c : tie.After-ones) → c .before .spaced-tens .result ∷ c .ones .result ∷ [] ≡ dayText (c .before .before .before .before .before .before .args .«record» .day)
 days c = spaced-pair _ (omega (arith, ranges (c .before .before .before))) (c .before .spaced-tens .ensures) (c .ones .ensures)
@@ -65,17 +44,6 @@ returns-2 c =
 
 pub vms-date-spec : {M : Type 1} → statement M
 vms-date-spec =
-    tie.close
-    (tie.spec
-    date-requires
-    checked-requires
-    returns
-    month-three-requires
-    spaced-tens-requires
-    ones-requires
-    slice-aggregate-put
-    put-requires
-    cast-put-decimal
-    put-decimal-requires
-    same-length
-    returns-2)
+    tie.close (tie.spec (λ c κs. search needs) (λ c κs. search needs) returns month-three-requires spaced-tens-requires
+    (λ c κs. search needs) (λ c. search needs) (λ c κs. search needs) cast-put-decimal (λ c κs. search needs)
+    (λ c. search needs) returns-2)

@@ -7,23 +7,11 @@ use Rattle.cursor.proofs.Positions.{parsed-there, ends-there}
 use Rattle.cursor.proofs.parsed_at.Statement.{statement}
 use Rattle.cursor.proofs.parsed_at.Tie as tie
 
-parsed-after-requires : tie.Need-parsed-after-requires
-parsed-after-requires c κs = search needs
-
-enum-known-piece : tie.Need-enum-known-piece
-enum-known-piece c = search needs
-
 add-t8 : tie.Need-add-t8
 add-t8 c = omega (arith, ends-there (now (c .before .before .before .before .before .args .format)) (c .before .before .before .before .before .args .i) _ (sym (c .before .piece .given .1) ∙ c .before .before .before .parsed-after .ensures))
 
-enum-known-next : tie.Need-enum-known-next
-enum-known-next c = search needs
-
 add-t9 : tie.Need-add-t9
 add-t9 c = omega (arith, ends-there (now (c .before .before .before .before .before .args .format)) (c .before .before .before .before .before .args .i) _ (sym (c .before .next .given .1) ∙ c .before .before .before .parsed-after .ensures))
-
-enum-told : tie.Need-enum-told
-enum-told c = search needs
 
 returns : tie.Need-returns
 returns c = parsed-there (now (c .before .before .before .before .before .args .format)) (c .before .before .before .before .before .args .i) _ (sym (c .before .piece .given .1) ∙ c .before .before .before .parsed-after .ensures)
@@ -36,14 +24,5 @@ returns-3 c = parsed-there (now (c .before .before .before .before .args .format
 
 pub parsed-at-spec : {M : Type 1} → statement M
 parsed-at-spec =
-    tie.close
-    (tie.spec
-    parsed-after-requires
-    enum-known-piece
-    add-t8
-    enum-known-next
-    add-t9
-    enum-told
-    returns
-    returns-2
-    returns-3)
+    tie.close (tie.spec (λ c κs. search needs) (λ c. search needs) add-t8 (λ c. search needs) add-t9 (λ c. search needs)
+    returns returns-2 returns-3)

@@ -7,31 +7,13 @@ use Rattle.cursor.proofs.UnreadLaws.{rest-taken}
 use Rattle.cursor.proofs.tail.Statement.{statement}
 use Rattle.cursor.proofs.tail.Tie as tie
 
-sub-result : tie.Need-sub-result
-sub-result c = search needs
-
-part-result-start : tie.Need-part-result-start
-part-result-start c = search needs
-
-part-result-end : tie.Need-part-result-end
-part-result-end c = search needs
-
 returns : tie.Need-returns
 returns c = rest-taken (now (c .before .before .args .remaining)) (c .before .before .args .n)
-
-slice-aggregate-result : tie.Need-slice-aggregate-result
-slice-aggregate-result c = search needs
 
 returns-2 : tie.Need-returns-2
 returns-2 c = sym (drop-of-length-le _ (c .before .if1 .left))
 
 pub tail-spec : {M : Type 1} → statement M
 tail-spec =
-    tie.close
-    (tie.spec
-    sub-result
-    part-result-start
-    part-result-end
-    returns
-    slice-aggregate-result
+    tie.close (tie.spec (λ c. search needs) (λ c. search needs) (λ c. search needs) returns (λ c. search needs)
     returns-2)

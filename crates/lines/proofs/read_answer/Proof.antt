@@ -8,12 +8,6 @@ use Rattle.lines.proofs.read_answer.Tie as tie
 read-number-requires : tie.Need-read-number-requires
 read-number-requires c κs = tt
 
-enum-known-answer : tie.Need-enum-known-answer
-enum-known-answer c = search needs
-
-enum-told : tie.Need-enum-told
-enum-told c = search needs
-
 returns : tie.Need-returns
 returns c = record { holds = tt }
 
@@ -26,46 +20,17 @@ returns-3 c = record { holds = tt }
 read-field-requires : tie.Need-read-field-requires
 read-field-requires c κs = tt
 
-enum-known-count : tie.Need-enum-known-count
-enum-known-count c = search needs
-
-enum-told-2 : tie.Need-enum-told-2
-enum-told-2 c = search needs
-
-same-length : tie.Need-same-length
-same-length c = search needs
-
 returns-4 : tie.Need-returns-4
 returns-4 c = record { holds = tt }
 
-same-length-2 : tie.Need-same-length-2
-same-length-2 c = search needs
-
 returns-5 : tie.Need-returns-5
 returns-5 c = record { holds = (omega arith, told (c .before .before .before .before .before .before .read-field .ensures) (c .before .before .count .given .1) .0) }
-
-same-length-3 : tie.Need-same-length-3
-same-length-3 c = search needs
 
 returns-6 : tie.Need-returns-6
 returns-6 c = record { holds = tt }
 
 pub read-answer-spec : {M : Type 1} → statement M
 read-answer-spec =
-    tie.close
-    (tie.spec
-    read-number-requires
-    enum-known-answer
-    enum-told
-    returns
-    returns-2
-    returns-3
-    read-field-requires
-    enum-known-count
-    enum-told-2
-    same-length
-    returns-4
-    same-length-2
-    returns-5
-    same-length-3
-    returns-6)
+    tie.close (tie.spec read-number-requires (λ c. search needs) (λ c. search needs) returns returns-2 returns-3
+    read-field-requires (λ c. search needs) (λ c. search needs) (λ c. search needs) returns-4 (λ c. search needs)
+    returns-5 (λ c. search needs) returns-6)

@@ -4,18 +4,6 @@ use borrow.Author.Needs.{needs}
 use Rattle.name_directive.proofs.fixed.Statement.{statement}
 use Rattle.name_directive.proofs.fixed.Tie as tie
 
-string-padding-requires : tie.Need-string-padding-requires
-string-padding-requires c κs = search needs
-
-fixed-byte-requires : tie.Need-fixed-byte-requires
-fixed-byte-requires c κs = search needs
-
-put-byte-requires : tie.Need-put-byte-requires
-put-byte-requires c κs = search needs
-
-same-length : tie.Need-same-length
-same-length c = search needs
-
 returns : tie.Need-returns
 returns c =
     let a = c .before .before .before .before .before .before .before .before .before .before .args in
@@ -23,5 +11,5 @@ returns c =
 
 pub fixed-spec : {M : Type 1} → statement M
 fixed-spec =
-    tie.close
-    (tie.spec string-padding-requires fixed-byte-requires put-byte-requires same-length returns)
+    tie.close (tie.spec (λ c κs. search needs) (λ c κs. search needs) (λ c κs. search needs) (λ c. search needs)
+    returns)

@@ -5,15 +5,6 @@ use borrow.Author.Needs.{needs}
 use Rattle.name_directive.proofs.fixed_byte.Statement.{statement}
 use Rattle.name_directive.proofs.fixed_byte.Tie as tie
 
-enum-told : tie.Need-enum-told
-enum-told c = search needs
-
-enum-told-2 : tie.Need-enum-told-2
-enum-told-2 c = search needs
-
-enum-told-3 : tie.Need-enum-told-3
-enum-told-3 c = search needs
-
 returns : tie.Need-returns
 unfolding fixedByte
 returns c = sym (ap fixedByte (c .enum-told .given .1))
@@ -28,4 +19,4 @@ returns-3 c = sym (ap fixedByte (c .enum-told3 .given .1))
 
 pub fixed-byte-spec : {M : Type 1} → statement M
 fixed-byte-spec =
-    tie.close (tie.spec enum-told enum-told-2 enum-told-3 returns returns-2 returns-3)
+    tie.close (tie.spec (λ c. search needs) (λ c. search needs) (λ c. search needs) returns returns-2 returns-3)

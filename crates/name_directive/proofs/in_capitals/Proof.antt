@@ -7,27 +7,6 @@ use borrow.Author.Needs.{needs}
 use Rattle.name_directive.proofs.in_capitals.Statement.{statement}
 use Rattle.name_directive.proofs.in_capitals.Tie as tie
 
-has-change-or-upper-case-requires : tie.Need-has-change-or-upper-case-requires
-has-change-or-upper-case-requires c κs = search needs
-
-enum-told : tie.Need-enum-told
-enum-told c = search needs
-
-enum-told-2 : tie.Need-enum-told-2
-enum-told-2 c = search needs
-
-enum-told-3 : tie.Need-enum-told-3
-enum-told-3 c = search needs
-
-enum-told-4 : tie.Need-enum-told-4
-enum-told-4 c = search needs
-
-enum-told-5 : tie.Need-enum-told-5
-enum-told-5 c = search needs
-
-enum-told-6 : tie.Need-enum-told-6
-enum-told-6 c = search needs
-
 returns : tie.Need-returns
 unfolding capitals
 returns c = known (λ (n : Name). capitals n (c .before .before .before .args .flags)) (c .enum-told .given .1) (c .before .before .has-change-or-upper-case .ensures)
@@ -54,18 +33,6 @@ returns-6 c = known (λ (n : Name). capitals n (c .before .before .before .args 
 
 pub in-capitals-spec : {M : Type 1} → statement M
 in-capitals-spec =
-    tie.close
-    (tie.spec
-    has-change-or-upper-case-requires
-    enum-told
-    enum-told-2
-    enum-told-3
-    enum-told-4
-    enum-told-5
-    enum-told-6
-    returns
-    returns-2
-    returns-3
-    returns-4
-    returns-5
+    tie.close (tie.spec (λ c κs. search needs) (λ c. search needs) (λ c. search needs) (λ c. search needs)
+    (λ c. search needs) (λ c. search needs) (λ c. search needs) returns returns-2 returns-3 returns-4 returns-5
     returns-6)

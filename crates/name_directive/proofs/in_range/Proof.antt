@@ -8,42 +8,6 @@ use borrow.Author.Needs.{needs}
 use Rattle.name_directive.proofs.in_range.Statement.{statement}
 use Rattle.name_directive.proofs.in_range.Tie as tie
 
-enum-told : tie.Need-enum-told
-enum-told c = search needs
-
-month-requires : tie.Need-month-requires
-month-requires c κs = search needs
-
-enum-told-2 : tie.Need-enum-told-2
-enum-told-2 c = search needs
-
-month-requires-2 : tie.Need-month-requires-2
-month-requires-2 c κs = search needs
-
-enum-told-3 : tie.Need-enum-told-3
-enum-told-3 c = search needs
-
-hour-requires : tie.Need-hour-requires
-hour-requires c κs = search needs
-
-enum-told-4 : tie.Need-enum-told-4
-enum-told-4 c = search needs
-
-hour-requires-2 : tie.Need-hour-requires-2
-hour-requires-2 c κs = search needs
-
-enum-told-5 : tie.Need-enum-told-5
-enum-told-5 c = search needs
-
-day-of-week-requires : tie.Need-day-of-week-requires
-day-of-week-requires c κs = search needs
-
-enum-told-6 : tie.Need-enum-told-6
-enum-told-6 c = search needs
-
-day-of-week-requires-2 : tie.Need-day-of-week-requires-2
-day-of-week-requires-2 c κs = search needs
-
 returns : tie.Need-returns
 unfolding nameFields
 returns c = λ zone. known (λ (n : Name). allOk (nameFields n) (c .before .before .before .args .«record») zone) (c .before .enum-told .given .1) (alone _ zone month (c .month .ensures zone))
@@ -70,23 +34,7 @@ returns-6 c = λ zone. known (λ (n : Name). allOk (nameFields n) (c .before .be
 
 pub in-range-spec : {M : Type 1} → statement M
 in-range-spec =
-    tie.close
-    (tie.spec
-    enum-told
-    month-requires
-    enum-told-2
-    month-requires-2
-    enum-told-3
-    hour-requires
-    enum-told-4
-    hour-requires-2
-    enum-told-5
-    day-of-week-requires
-    enum-told-6
-    day-of-week-requires-2
-    returns
-    returns-2
-    returns-3
-    returns-4
-    returns-5
+    tie.close (tie.spec (λ c. search needs) (λ c κs. search needs) (λ c. search needs) (λ c κs. search needs)
+    (λ c. search needs) (λ c κs. search needs) (λ c. search needs) (λ c κs. search needs) (λ c. search needs)
+    (λ c κs. search needs) (λ c. search needs) (λ c κs. search needs) returns returns-2 returns-3 returns-4 returns-5
     returns-6)

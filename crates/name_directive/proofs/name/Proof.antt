@@ -6,38 +6,20 @@ use borrow.Author.Needs.{needs}
 use Rattle.name_directive.proofs.name.Statement.{statement}
 use Rattle.name_directive.proofs.name.Tie as tie
 
-in-range-requires : tie.Need-in-range-requires
-in-range-requires c κs = search needs
-
-number-of-requires : tie.Need-number-of-requires
-number-of-requires c κs = search needs
-
 name-length-requires : tie.Need-name-length-requires
 name-length-requires c κs =
     let a = c .before .before .before .before .before .before .args in
     in-range-named (a .name) (a .«record») (c .before .before .before .before .in-range .ensures) (c .before .before .before .if1 .taken) (c .before .number-of .ensures)
-
-string-padding-requires : tie.Need-string-padding-requires
-string-padding-requires c κs = search needs
-
-in-capitals-requires : tie.Need-in-capitals-requires
-in-capitals-requires c κs = search needs
 
 put-name-requires : tie.Need-put-name-requires
 put-name-requires c κs =
     let s = c .before .before .before .before .before .before .before .before .before .before .before .before in
     (room-kept (c .before .before .before .before .string-padding .ensures) (s .pre .0), in-range-named (s .args .name) (s .args .«record») (c .before .before .before .before .before .before .before .before .before .before .in-range .ensures) (c .before .before .before .before .before .before .before .before .before .if1 .taken) (c .before .before .before .before .before .before .before .number-of .ensures))
 
-same-length : tie.Need-same-length
-same-length c = search needs
-
 returns : tie.Need-returns
 returns c =
     let a = c .before .before .before .before .before .before .before .before .before .before .before .before .before .before .before .args in
     λ zone. named (a .name) (a .piece) (a .«record») zone (c .before .before .before .before .before .before .before .before .before .before .before .before .before .in-range .ensures zone) (c .before .before .before .before .before .before .before .before .before .before .before .before .if1 .taken) (c .before .before .before .before .before .before .before .before .before .before .number-of .ensures) (c .before .before .before .in-capitals .ensures) (c .before .before .before .before .before .before .before .before .name-length .ensures _) (c .before .before .before .before .before .before .before .string-padding .ensures) (c .before .before .put-name .ensures _)
-
-checked-requires : tie.Need-checked-requires
-checked-requires c κs = search needs
 
 returns-2 : tie.Need-returns-2
 returns-2 c =
@@ -46,15 +28,5 @@ returns-2 c =
 
 pub name-spec : {M : Type 1} → statement M
 name-spec =
-    tie.close
-    (tie.spec
-    in-range-requires
-    number-of-requires
-    name-length-requires
-    string-padding-requires
-    in-capitals-requires
-    put-name-requires
-    same-length
-    returns
-    checked-requires
-    returns-2)
+    tie.close (tie.spec (λ c κs. search needs) (λ c κs. search needs) name-length-requires (λ c κs. search needs)
+    (λ c κs. search needs) put-name-requires (λ c. search needs) returns (λ c κs. search needs) returns-2)

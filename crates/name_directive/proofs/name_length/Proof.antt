@@ -9,31 +9,13 @@ use borrow.Author.Needs.{needs}
 use Rattle.name_directive.proofs.name_length.Statement.{statement}
 use Rattle.name_directive.proofs.name_length.Tie as tie
 
-enum-told : tie.Need-enum-told
-enum-told c = search needs
-
 month-length-requires : tie.Need-month-length-requires
 unfolding Named
 month-length-requires c κs = named-as _ (c .enum-told .given .1) (c .before .before .pre)
 
-enum-told-2 : tie.Need-enum-told-2
-enum-told-2 c = search needs
-
-enum-told-3 : tie.Need-enum-told-3
-enum-told-3 c = search needs
-
-enum-told-4 : tie.Need-enum-told-4
-enum-told-4 c = search needs
-
-enum-told-5 : tie.Need-enum-told-5
-enum-told-5 c = search needs
-
 day-length-requires : tie.Need-day-length-requires
 unfolding Named
 day-length-requires c κs = named-as _ (c .enum-told5 .given .1) (c .before .before .pre)
-
-enum-told-6 : tie.Need-enum-told-6
-enum-told-6 c = search needs
 
 returns : tie.Need-returns
 unfolding lettersOf
@@ -61,19 +43,6 @@ returns-6 c = λ capital. known (λ (n : Name). length (lettersOf n capital (c .
 
 pub name-length-spec : {M : Type 1} → statement M
 name-length-spec =
-    tie.close
-    (tie.spec
-    enum-told
-    month-length-requires
-    enum-told-2
-    enum-told-3
-    enum-told-4
-    enum-told-5
-    day-length-requires
-    enum-told-6
-    returns
-    returns-2
-    returns-3
-    returns-4
-    returns-5
-    returns-6)
+    tie.close (tie.spec (λ c. search needs) month-length-requires (λ c. search needs) (λ c. search needs)
+    (λ c. search needs) (λ c. search needs) day-length-requires (λ c. search needs) returns returns-2 returns-3
+    returns-4 returns-5 returns-6)

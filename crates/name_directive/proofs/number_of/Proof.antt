@@ -7,24 +7,6 @@ use borrow.Author.Needs.{needs}
 use Rattle.name_directive.proofs.number_of.Statement.{statement}
 use Rattle.name_directive.proofs.number_of.Tie as tie
 
-enum-told : tie.Need-enum-told
-enum-told c = search needs
-
-enum-told-2 : tie.Need-enum-told-2
-enum-told-2 c = search needs
-
-enum-told-3 : tie.Need-enum-told-3
-enum-told-3 c = search needs
-
-enum-told-4 : tie.Need-enum-told-4
-enum-told-4 c = search needs
-
-enum-told-5 : tie.Need-enum-told-5
-enum-told-5 c = search needs
-
-enum-told-6 : tie.Need-enum-told-6
-enum-told-6 c = search needs
-
 returns : tie.Need-returns
 unfolding numberOf
 returns c = known (λ (n : Name). numberOf n (c .before .before .args .«record»)) (c .enum-told .given .1) refl
@@ -51,17 +33,5 @@ returns-6 c = known (λ (n : Name). numberOf n (c .before .before .args .«recor
 
 pub number-of-spec : {M : Type 1} → statement M
 number-of-spec =
-    tie.close
-    (tie.spec
-    enum-told
-    enum-told-2
-    enum-told-3
-    enum-told-4
-    enum-told-5
-    enum-told-6
-    returns
-    returns-2
-    returns-3
-    returns-4
-    returns-5
-    returns-6)
+    tie.close (tie.spec (λ c. search needs) (λ c. search needs) (λ c. search needs) (λ c. search needs)
+    (λ c. search needs) (λ c. search needs) returns returns-2 returns-3 returns-4 returns-5 returns-6)

@@ -4,22 +4,10 @@ use borrow.Author.Needs.{needs}
 use Rattle.name_directive.proofs.plain_zone_name.Statement.{statement}
 use Rattle.name_directive.proofs.plain_zone_name.Tie as tie
 
-time-zone-requires : tie.Need-time-zone-requires
-time-zone-requires c κs = search needs
-
-checked-requires : tie.Need-checked-requires
-checked-requires c κs = search needs
-
 returns : tie.Need-returns
 returns c =
     let s = c .before .before .before .before .before in
     λ r. zone-empty _ r (s .args .zone .now) (c .before .before .time-zone .ensures) (c .if1 .taken) (c .before .checked .ensures _ _ _)
-
-put-slice-requires : tie.Need-put-slice-requires
-put-slice-requires c κs = search needs
-
-same-length : tie.Need-same-length
-same-length c = search needs
 
 returns-2 : tie.Need-returns-2
 returns-2 c =
@@ -28,5 +16,5 @@ returns-2 c =
 
 pub plain-zone-name-spec : {M : Type 1} → statement M
 plain-zone-name-spec =
-    tie.close
-    (tie.spec time-zone-requires checked-requires returns put-slice-requires same-length returns-2)
+    tie.close (tie.spec (λ c κs. search needs) (λ c κs. search needs) returns (λ c κs. search needs) (λ c. search needs)
+    returns-2)

@@ -7,24 +7,13 @@ use borrow.Author.Needs.{needs}
 use Rattle.name_directive.proofs.put_byte.Statement.{statement}
 use Rattle.name_directive.proofs.put_byte.Tie as tie
 
-slice-write-out : tie.Need-slice-write-out
-slice-write-out c = search needs
-
-add-result : tie.Need-add-result
-add-result c = search needs
-
-same-length : tie.Need-same-length
-same-length c = search needs
-
 returns : tie.Need-returns
 returns c = λ limit. placed (sym (overlay-one _ _ _)) refl (omega arith) (c .before .before .pre)
-
-missed-requires : tie.Need-missed-requires
-missed-requires c κs = search needs
 
 returns-2 : tie.Need-returns-2
 returns-2 c = λ limit. c .missed .ensures limit _ _ _ refl (c .before .before .before .pre .within) (sym (overlay-past _ _ _ (c .before .if1 .left)))
 
 pub put-byte-spec : {M : Type 1} → statement M
 put-byte-spec =
-    tie.close (tie.spec slice-write-out add-result same-length returns missed-requires returns-2)
+    tie.close (tie.spec (λ c. search needs) (λ c. search needs) (λ c. search needs) returns (λ c κs. search needs)
+    returns-2)

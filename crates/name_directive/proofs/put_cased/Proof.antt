@@ -11,17 +11,11 @@ use borrow.Author.Needs.{needs}
 use Rattle.name_directive.proofs.put_cased.Statement.{statement}
 use Rattle.name_directive.proofs.put_cased.Tie as tie
 
-fits-requires : tie.Need-fits-requires
-fits-requires c κs = search needs
-
 copy-cased-requires : tie.Need-copy-cased-requires
 copy-cased-requires c κs = fits-yes _ _ (c .before .before .fits2 .ensures) (c .before .if1 .taken)
 
 add-result : tie.Need-add-result
 add-result c = let k = sym (c .before .before .before .before .before .fits2 .ensures) ∙ c .before .before .before .before .if1 .taken in omega (arith, leb-true)
-
-same-length : tie.Need-same-length
-same-length c = search needs
 
 returns : tie.Need-returns
 returns c =
@@ -30,24 +24,10 @@ returns c =
     let e = length-map (s .args .src .now) (byteIn (s .args .lowered)) in
     λ limit. placed (c .before .before .copy-cased .ensures) (ap (λ (n : ℕ). s .args .at + n) (sym e)) k (s .pre)
 
-cased-short-requires : tie.Need-cased-short-requires
-cased-short-requires c κs = search needs
-
-same-length-2 : tie.Need-same-length-2
-same-length-2 c = search needs
-
 returns-2 : tie.Need-returns-2
 returns-2 c = c .before .before .cased-short .ensures
 
 pub put-cased-spec : {M : Type 1} → statement M
 put-cased-spec =
-    tie.close
-    (tie.spec
-    fits-requires
-    copy-cased-requires
-    add-result
-    same-length
-    returns
-    cased-short-requires
-    same-length-2
-    returns-2)
+    tie.close (tie.spec (λ c κs. search needs) copy-cased-requires add-result (λ c. search needs) returns
+    (λ c κs. search needs) (λ c. search needs) returns-2)

@@ -5,33 +5,15 @@ use borrow.Author.Needs.{needs}
 use Rattle.name_directive.proofs.put_zone.Statement.{statement}
 use Rattle.name_directive.proofs.put_zone.Tie as tie
 
-put-cased-requires : tie.Need-put-cased-requires
-put-cased-requires c κs = search needs
-
-same-length : tie.Need-same-length
-same-length c = search needs
-
 returns : tie.Need-returns
 returns c =
     let a = c .before .before .before .before .before .before .before .args in
     λ limit. said (zone-lowered (a .flags) (a .zone .now) (c .before .before .before .before .if1 .taken)) (c .before .before .put-cased .ensures limit)
 
-put-cased-requires-2 : tie.Need-put-cased-requires-2
-put-cased-requires-2 c κs = search needs
-
-same-length-2 : tie.Need-same-length-2
-same-length-2 c = search needs
-
 returns-2 : tie.Need-returns-2
 returns-2 c =
     let a = c .before .before .before .before .before .before .before .before .args in
     λ limit. said (zone-raised (a .flags) (a .zone .now) (c .before .before .before .before .before .if1 .left) (c .before .before .before .before .if2 .taken)) (c .before .before .put-cased2 .ensures limit)
-
-put-slice-requires : tie.Need-put-slice-requires
-put-slice-requires c κs = search needs
-
-same-length-3 : tie.Need-same-length-3
-same-length-3 c = search needs
 
 returns-3 : tie.Need-returns-3
 returns-3 c =
@@ -40,14 +22,5 @@ returns-3 c =
 
 pub put-zone-spec : {M : Type 1} → statement M
 put-zone-spec =
-    tie.close
-    (tie.spec
-    put-cased-requires
-    same-length
-    returns
-    put-cased-requires-2
-    same-length-2
-    returns-2
-    put-slice-requires
-    same-length-3
-    returns-3)
+    tie.close (tie.spec (λ c κs. search needs) (λ c. search needs) returns (λ c κs. search needs) (λ c. search needs)
+    returns-2 (λ c κs. search needs) (λ c. search needs) returns-3)

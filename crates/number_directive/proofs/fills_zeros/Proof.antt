@@ -6,15 +6,6 @@ use borrow.Author.Needs.{needs}
 use Rattle.number_directive.proofs.fills_zeros.Statement.{statement}
 use Rattle.number_directive.proofs.fills_zeros.Tie as tie
 
-enum-told : tie.Need-enum-told
-enum-told c = search needs
-
-enum-told-2 : tie.Need-enum-told-2
-enum-told-2 c = search needs
-
-enum-told-3 : tie.Need-enum-told-3
-enum-told-3 c = search needs
-
 returns : tie.Need-returns
 returns c = own-fill (c .before .before .args .space) ∙ ap (fillBy (c .before .before .args .space)) (sym (c .enum-told .given .1))
 
@@ -26,4 +17,4 @@ returns-3 c = always-zeros (c .before .before .args .space) ∙ ap (fillBy (c .b
 
 pub fills-zeros-spec : {M : Type 1} → statement M
 fills-zeros-spec =
-    tie.close (tie.spec enum-told enum-told-2 enum-told-3 returns returns-2 returns-3)
+    tie.close (tie.spec (λ c. search needs) (λ c. search needs) (λ c. search needs) returns returns-2 returns-3)

@@ -4,51 +4,19 @@ use borrow.Author.Needs.{needs}
 use Rattle.number_directive.proofs.format_nanoseconds.Statement.{statement}
 use Rattle.number_directive.proofs.format_nanoseconds.Tie as tie
 
-power-requires : tie.Need-power-requires
-power-requires c κs = search needs
-
 div-value : tie.Need-div-value
 div-value c = power-positive _ (c .power .ensures)
 
 cast-put-places : tie.Need-cast-put-places
 cast-put-places c = quotient-fits _ _ (search needs)
 
-put-places-requires : tie.Need-put-places-requires
-put-places-requires c κs = search needs
-
-same-length : tie.Need-same-length
-same-length c = search needs
-
 returns : tie.Need-returns
 returns c = nine-or-fewer _ _ (c .before .before .before .before .before .if1 .taken) (c .before .before .before .before .power .ensures) (c .before .before .before .before .before .before .before .pre .0 .small) (c .before .before .before .before .before .before .before .pre .1) (c .before .before .put-places .ensures _)
-
-put-places-requires-2 : tie.Need-put-places-requires-2
-put-places-requires-2 c κs = search needs
-
-sub-pad : tie.Need-sub-pad
-sub-pad c = search needs
-
-pad-requires : tie.Need-pad-requires
-pad-requires c κs = search needs
-
-same-length-2 : tie.Need-same-length-2
-same-length-2 c = search needs
 
 returns-2 : tie.Need-returns-2
 returns-2 c = more-than-nine _ _ (c .before .before .before .before .before .before .before .before .if1 .left) (c .before .before .before .before .before .before .put-places2 .ensures _) (c .before .before .pad .ensures)
 
 pub format-nanoseconds-spec : {M : Type 1} → statement M
 format-nanoseconds-spec =
-    tie.close
-    (tie.spec
-    power-requires
-    div-value
-    cast-put-places
-    put-places-requires
-    same-length
-    returns
-    put-places-requires-2
-    sub-pad
-    pad-requires
-    same-length-2
-    returns-2)
+    tie.close (tie.spec (λ c κs. search needs) div-value cast-put-places (λ c κs. search needs) (λ c. search needs)
+    returns (λ c κs. search needs) (λ c. search needs) (λ c κs. search needs) (λ c. search needs) returns-2)

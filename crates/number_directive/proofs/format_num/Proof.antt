@@ -6,28 +6,10 @@ use borrow.Author.Needs.{needs}
 use Rattle.number_directive.proofs.format_num.Statement.{statement}
 use Rattle.number_directive.proofs.format_num.Tie as tie
 
-put-decimal-requires : tie.Need-put-decimal-requires
-put-decimal-requires c κs = search needs
-
-same-length : tie.Need-same-length
-same-length c = search needs
-
 returns : tie.Need-returns
 returns c =
     let a = c .before .before .before .before .before .before .args in
     narrow (fillWith (a .zeros)) (a .width) (a .v) (c .before .before .before .before .if1 .taken) (c .before .before .before .before .before .before .pre .1) (as-read (fillWith (a .zeros)) (a .width) (a .v) (c .before .before .before .before .before .before .fits .v) (c .before .before .put-decimal .ensures _))
-
-fill-byte-requires : tie.Need-fill-byte-requires
-fill-byte-requires c κs = search needs
-
-put-padding-requires : tie.Need-put-padding-requires
-put-padding-requires c κs = search needs
-
-put-decimal-requires-2 : tie.Need-put-decimal-requires-2
-put-decimal-requires-2 c κs = search needs
-
-same-length-2 : tie.Need-same-length-2
-same-length-2 c = search needs
 
 returns-2 : tie.Need-returns-2
 returns-2 c =
@@ -36,13 +18,5 @@ returns-2 c =
 
 pub format-num-spec : {M : Type 1} → statement M
 format-num-spec =
-    tie.close
-    (tie.spec
-    put-decimal-requires
-    same-length
-    returns
-    fill-byte-requires
-    put-padding-requires
-    put-decimal-requires-2
-    same-length-2
-    returns-2)
+    tie.close (tie.spec (λ c κs. search needs) (λ c. search needs) returns (λ c κs. search needs) (λ c κs. search needs)
+    (λ c κs. search needs) (λ c. search needs) returns-2)

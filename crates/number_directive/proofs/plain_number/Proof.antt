@@ -9,22 +9,10 @@ use borrow.Author.Needs.{needs}
 use Rattle.number_directive.proofs.plain_number.Statement.{statement}
 use Rattle.number_directive.proofs.plain_number.Tie as tie
 
-value-of-requires : tie.Need-value-of-requires
-value-of-requires c κs = search needs
-
-checked-requires : tie.Need-checked-requires
-checked-requires c κs = search needs
-
 returns : tie.Need-returns
 returns c =
     let a = c .before .before .before .before .before .args in
     λ limit zone h. number-failed (a .number) _ (a .«record») zone (c .before .before .before .value-of .ensures) (not-true _ (c .before .if1 .taken)) (c .checked .ensures _ _ _)
-
-put-quick-requires : tie.Need-put-quick-requires
-put-quick-requires c κs = search needs
-
-same-length : tie.Need-same-length
-same-length c = search needs
 
 returns-2 : tie.Need-returns-2
 returns-2 c =
@@ -33,5 +21,5 @@ returns-2 c =
 
 pub plain-number-spec : {M : Type 1} → statement M
 plain-number-spec =
-    tie.close
-    (tie.spec value-of-requires checked-requires returns put-quick-requires same-length returns-2)
+    tie.close (tie.spec (λ c κs. search needs) (λ c κs. search needs) returns (λ c κs. search needs) (λ c. search needs)
+    returns-2)

@@ -21,9 +21,6 @@ cast-put-two c = cast-few 2 _ (two-digits (c .before)) w8 (lit≤ tt)
 put-two-requires : tie.Need-put-two-requires
 put-two-requires c κs = (c .before .before .before .before .before .before .pre, few-below 2 _ (two-digits (c .before)))
 
-same-length : tie.Need-same-length
-same-length c = search needs
-
 returns : tie.Need-returns
 returns c = λ limit. said (few-text 2 _ (two-digits (c .before .before .before .before)) (lit≤ tt) (c .before .before .before .before .before .before .before .if1 .taken) (eqb-true (c .before .before .before .before .before .before .before .before .before .args .width) 2 (c .before .before .before .before .before .before .if2 .taken))) (c .before .before .put-two .ensures limit)
 
@@ -33,33 +30,13 @@ cast-put-four c = cast-few 4 _ (four-digits (c .before)) w32 (lit≤ tt)
 put-four-requires : tie.Need-put-four-requires
 put-four-requires c κs = (c .before .before .before .before .before .before .before .pre, few-below 4 _ (four-digits (c .before)))
 
-same-length-2 : tie.Need-same-length-2
-same-length-2 c = search needs
-
 returns-2 : tie.Need-returns-2
 returns-2 c = λ limit. said (few-text 4 _ (four-digits (c .before .before .before .before)) (lit≤ tt) (c .before .before .before .before .before .before .before .if5 .taken) (eqb-true (c .before .before .before .before .before .before .before .before .before .before .args .width) 4 (c .before .before .before .before .before .before .if6 .taken))) (c .before .before .put-four .ensures limit)
-
-put-decimal-requires : tie.Need-put-decimal-requires
-put-decimal-requires c κs = search needs
-
-same-length-3 : tie.Need-same-length-3
-same-length-3 c = search needs
 
 returns-3 : tie.Need-returns-3
 returns-3 c = let a = c .before .before .before .before .before .before .before .args in λ limit. as-read (fillWith (a .zeros)) (a .width) (a .v) (c .before .before .before .before .before .before .before .fits .v) (c .before .before .put-decimal .ensures limit)
 
 pub put-quick-spec : {M : Type 1} → statement M
 put-quick-spec =
-    tie.close
-    (tie.spec
-    cast-put-two
-    put-two-requires
-    same-length
-    returns
-    cast-put-four
-    put-four-requires
-    same-length-2
-    returns-2
-    put-decimal-requires
-    same-length-3
-    returns-3)
+    tie.close (tie.spec cast-put-two put-two-requires (λ c. search needs) returns cast-put-four put-four-requires
+    (λ c. search needs) returns-2 (λ c κs. search needs) (λ c. search needs) returns-3)

@@ -14,18 +14,6 @@ use borrow.Author.Needs.{needs}
 use Rattle.numbers.proofs.decimal_text.Statement.{statement}
 use Rattle.numbers.proofs.decimal_text.Tie as tie
 
-unsigned-abs64-requires : tie.Need-unsigned-abs64-requires
-unsigned-abs64-requires c κs = search needs
-
-digit-count-requires : tie.Need-digit-count-requires
-digit-count-requires c κs = search needs
-
-array-write-bytes : tie.Need-array-write-bytes
-array-write-bytes c = search needs
-
-slice-aggregate-write-places : tie.Need-slice-aggregate-write-places
-slice-aggregate-write-places c = search needs
-
 size-is : (c : tie.After-unsigned-abs64) → c .unsigned-abs64 .result ≡ natAbs (c .before .args .v)
 size-is c = c .unsigned-abs64 .ensures ∙ ap natAbs (toZ-ofZ w64 _ (c .before .fits .v))
 
@@ -40,9 +28,6 @@ write-places-requires c κs = omega (arith, n-small (c .before .before))
 
 add-t13 : tie.Need-add-t13
 add-t13 c = omega (arith, n-small (c .before .before .before .before))
-
-slice-aggregate-write-places-2 : tie.Need-slice-aggregate-write-places-2
-slice-aggregate-write-places-2 c = search needs
 
 write-places-requires-2 : tie.Need-write-places-requires-2
 write-places-requires-2 c κs = omega (arith, n-small (c .before .before))
@@ -63,15 +48,5 @@ returns-2 c =
 
 pub decimal-text-spec : {M : Type 1} → statement M
 decimal-text-spec =
-    tie.close
-    (tie.spec
-    unsigned-abs64-requires
-    digit-count-requires
-    array-write-bytes
-    slice-aggregate-write-places
-    write-places-requires
-    add-t13
-    slice-aggregate-write-places-2
-    write-places-requires-2
-    returns
-    returns-2)
+    tie.close (tie.spec (λ c κs. search needs) (λ c κs. search needs) (λ c. search needs) (λ c. search needs)
+    write-places-requires add-t13 (λ c. search needs) write-places-requires-2 returns returns-2)

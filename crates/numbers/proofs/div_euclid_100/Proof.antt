@@ -16,9 +16,6 @@ use Rattle.numbers.proofs.div_euclid_100.Tie as tie
 cast-magnitude : tie.Need-cast-magnitude
 cast-magnitude c = widens _ (c .fits .y)
 
-magnitude-requires : tie.Need-magnitude-requires
-magnitude-requires c κs = search needs
-
 m-is : (c : tie.After-magnitude) → c .magnitude .result ≡ mag (c .before .args .y)
 m-is c = c .magnitude .ensures ∙ ap mag (widened _ (c .before .fits .y))
 
@@ -49,12 +46,4 @@ returns-2 c =
 
 pub div-euclid-100-spec : {M : Type 1} → statement M
 div-euclid-100-spec =
-    tie.close
-    (tie.spec
-    cast-magnitude
-    magnitude-requires
-    cast-result
-    sub-result
-    cast-result-2
-    returns
-    returns-2)
+    tie.close (tie.spec cast-magnitude (λ c κs. search needs) cast-result sub-result cast-result-2 returns returns-2)

@@ -5,18 +5,6 @@ use borrow.Author.Needs.{needs}
 use Rattle.numbers.proofs.powers_reached.Statement.{statement}
 use Rattle.numbers.proofs.powers_reached.Tie as tie
 
-mul-if1 : tie.Need-mul-if1
-mul-if1 c = search needs
-
-mul-if2 : tie.Need-mul-if2
-mul-if2 c = search needs
-
-mul-if3 : tie.Need-mul-if3
-mul-if3 c = search needs
-
-mul-if4 : tie.Need-mul-if4
-mul-if4 c = search needs
-
 returns : tie.Need-returns
 returns c = λ k e h. none-reached _ _ k e h (omega arith)
 
@@ -34,5 +22,5 @@ returns-5 c = λ k e h. some-reached _ _ k e 4 (omega arith) (omega arith)
 
 pub powers-reached-spec : {M : Type 1} → statement M
 powers-reached-spec =
-    tie.close
-    (tie.spec mul-if1 mul-if2 mul-if3 mul-if4 returns returns-2 returns-3 returns-4 returns-5)
+    tie.close (tie.spec (λ c. search needs) (λ c. search needs) (λ c. search needs) (λ c. search needs) returns
+    returns-2 returns-3 returns-4 returns-5)

@@ -11,18 +11,6 @@ use borrow.Author.Needs.{needs}
 use Rattle.numbers.proofs.rem_euclid_100.Statement.{statement}
 use Rattle.numbers.proofs.rem_euclid_100.Tie as tie
 
-magnitude-requires : tie.Need-magnitude-requires
-magnitude-requires c κs = search needs
-
-sub-result : tie.Need-sub-result
-sub-result c = search needs
-
-cast-result : tie.Need-cast-result
-cast-result c = search needs
-
-cast-result-2 : tie.Need-cast-result-2
-cast-result-2 c = search needs
-
 m-is : (c : tie.After-magnitude) → c .magnitude .result ≡ mag (c .before .args .y)
 m-is c = c .magnitude .ensures ∙ ap mag (toZ-ofZ w64 _ (c .before .fits .y))
 
@@ -36,4 +24,5 @@ returns-2 c =
 
 pub rem-euclid-100-spec : {M : Type 1} → statement M
 rem-euclid-100-spec =
-    tie.close (tie.spec magnitude-requires sub-result cast-result cast-result-2 returns returns-2)
+    tie.close (tie.spec (λ c κs. search needs) (λ c. search needs) (λ c. search needs) (λ c. search needs) returns
+    returns-2)

@@ -10,9 +10,6 @@ use Rattle.numbers.proofs.unsigned_abs.Tie as tie
 cast-unsigned-abs64 : tie.Need-cast-unsigned-abs64
 cast-unsigned-abs64 c = widens _ (c .fits .x)
 
-unsigned-abs64-requires : tie.Need-unsigned-abs64-requires
-unsigned-abs64-requires c κs = search needs
-
 size-is : (c : tie.After-unsigned-abs64) → c .unsigned-abs64 .result ≡ natAbs (c .before .args .x)
 size-is c = c .unsigned-abs64 .ensures ∙ ap natAbs (widened _ (c .before .fits .x))
 
@@ -24,4 +21,4 @@ returns c = size-is c
 
 pub unsigned-abs-spec : {M : Type 1} → statement M
 unsigned-abs-spec =
-    tie.close (tie.spec cast-unsigned-abs64 unsigned-abs64-requires cast-result returns)
+    tie.close (tie.spec cast-unsigned-abs64 (λ c κs. search needs) cast-result returns)

@@ -5,26 +5,14 @@ use Rattle.offset.proofs.Laws.{number-is, u32-is, parts-from}
 use Rattle.offset.proofs.offset_parts.Statement.{statement}
 use Rattle.offset.proofs.offset_parts.Tie as tie
 
-compute-offset-parts-requires : tie.Need-compute-offset-parts-requires
-compute-offset-parts-requires c κs = search needs
-
 is-sign-negative-requires : tie.Need-is-sign-negative-requires
 is-sign-negative-requires c κs =
     number-is _ _ (hours-small (c .before .args .utc-offset) (c .before .fits .utc-offset)) (c .compute-offset-parts .ensures .0)
-
-extra-place-requires : tie.Need-extra-place-requires
-extra-place-requires c κs = search needs
 
 whole-hours-requires : tie.Need-whole-hours-requires
 whole-hours-requires c κs =
     let a = c .before .before in
     u32-is _ _ (hours-small (a .before .args .utc-offset) (a .before .fits .utc-offset)) (a .compute-offset-parts .ensures .0)
-
-cast-t9 : tie.Need-cast-t9
-cast-t9 c = search needs
-
-cast-t10 : tie.Need-cast-t10
-cast-t10 c = search needs
 
 returns : tie.Need-returns
 returns c =
@@ -38,12 +26,5 @@ returns c =
 
 pub offset-parts-spec : {M : Type 1} → statement M
 offset-parts-spec =
-    tie.close
-    (tie.spec
-    compute-offset-parts-requires
-    is-sign-negative-requires
-    extra-place-requires
-    whole-hours-requires
-    cast-t9
-    cast-t10
-    returns)
+    tie.close (tie.spec (λ c κs. search needs) is-sign-negative-requires (λ c κs. search needs) whole-hours-requires
+    (λ c. search needs) (λ c. search needs) returns)

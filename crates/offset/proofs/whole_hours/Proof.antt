@@ -25,5 +25,4 @@ returns-2 c = cast-is (c .before .before .before .args .hour) false (c .before .
 
 pub whole-hours-spec : {M : Type 1} → statement M
 whole-hours-spec =
-    tie.close
-    (tie.spec is-sign-negative-requires float-to-int-result float-to-int-result-2 returns returns-2)
+    tie.close (tie.spec is-sign-negative-requires float-to-int-result float-to-int-result-2 returns returns-2)

@@ -6,21 +6,6 @@ use borrow.Author.Needs.{needs}
 use Rattle.offset_directive.proofs.form_length.Statement.{statement}
 use Rattle.offset_directive.proofs.form_length.Tie as tie
 
-enum-told : tie.Need-enum-told
-enum-told c = search needs
-
-enum-told-2 : tie.Need-enum-told-2
-enum-told-2 c = search needs
-
-enum-told-3 : tie.Need-enum-told-3
-enum-told-3 c = search needs
-
-enum-told-4 : tie.Need-enum-told-4
-enum-told-4 c = search needs
-
-minimal-length-requires : tie.Need-minimal-length-requires
-minimal-length-requires c κs = search needs
-
 returns : tie.Need-returns
 unfolding formOf lengthOfForm
 returns c = λ z m s. sym (ap (λ (o : Offset). lengthOfForm (formOf o z)) (c .enum-told .given .1))
@@ -38,14 +23,5 @@ returns-4 c = λ z m s. c .minimal-length .ensures z m s ∙ sym (ap (λ (o : Of
 
 pub form-length-spec : {M : Type 1} → statement M
 form-length-spec =
-    tie.close
-    (tie.spec
-    enum-told
-    enum-told-2
-    enum-told-3
-    enum-told-4
-    minimal-length-requires
-    returns
-    returns-2
-    returns-3
-    returns-4)
+    tie.close (tie.spec (λ c. search needs) (λ c. search needs) (λ c. search needs) (λ c. search needs)
+    (λ c κs. search needs) returns returns-2 returns-3 returns-4)

@@ -6,18 +6,6 @@ use borrow.Author.Needs.{needs}
 use Rattle.offset_directive.proofs.offset.Statement.{statement}
 use Rattle.offset_directive.proofs.offset.Tie as tie
 
-width-or-requires : tie.Need-width-or-requires
-width-or-requires c κs = search needs
-
-is-spaces-requires : tie.Need-is-spaces-requires
-is-spaces-requires c κs = search needs
-
-zone-offset-requires : tie.Need-zone-offset-requires
-zone-offset-requires c κs = search needs
-
-same-length : tie.Need-same-length
-same-length c = search needs
-
 returns : tie.Need-returns
 returns c = let a = c .before .before .before .before .before .before .before .before .args in
     λ zone.
@@ -26,5 +14,5 @@ returns c = let a = c .before .before .before .before .before .before .before .b
 
 pub offset-spec : {M : Type 1} → statement M
 offset-spec =
-    tie.close
-    (tie.spec width-or-requires is-spaces-requires zone-offset-requires same-length returns)
+    tie.close (tie.spec (λ c κs. search needs) (λ c κs. search needs) (λ c κs. search needs) (λ c. search needs)
+    returns)

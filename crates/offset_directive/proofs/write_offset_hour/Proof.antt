@@ -5,26 +5,8 @@ use borrow.Author.Needs.{needs}
 use Rattle.offset_directive.proofs.write_offset_hour.Statement.{statement}
 use Rattle.offset_directive.proofs.write_offset_hour.Tie as tie
 
-saturating-sub-requires : tie.Need-saturating-sub-requires
-saturating-sub-requires c κs = search needs
-
-add-count : tie.Need-add-count
-add-count c = search needs
-
-write-sign-and-pad-requires : tie.Need-write-sign-and-pad-requires
-write-sign-and-pad-requires c κs = search needs
-
-cast-hours : tie.Need-cast-hours
-cast-hours c = search needs
-
-digit-count-requires : tie.Need-digit-count-requires
-digit-count-requires c κs = search needs
-
 put-places-requires : tie.Need-put-places-requires
 put-places-requires c κs = room-kept (c .before .before .before .before .before .write-sign-and-pad .ensures) (c .before .before .before .before .before .before .before .before .before .before .pre .0)
-
-same-length : tie.Need-same-length
-same-length c = search needs
 
 returns : tie.Need-returns
 returns c = (rw (c .before .before .before .before .before .before .before .before .before .before .before .saturating-sub .ensures) at (c .before .before .before .before .before .before .before .before .write-sign-and-pad .ensures))
@@ -32,13 +14,5 @@ returns c = (rw (c .before .before .before .before .before .before .before .befo
 
 pub write-offset-hour-spec : {M : Type 1} → statement M
 write-offset-hour-spec =
-    tie.close
-    (tie.spec
-    saturating-sub-requires
-    add-count
-    write-sign-and-pad-requires
-    cast-hours
-    digit-count-requires
-    put-places-requires
-    same-length
-    returns)
+    tie.close (tie.spec (λ c κs. search needs) (λ c. search needs) (λ c κs. search needs) (λ c. search needs)
+    (λ c κs. search needs) put-places-requires (λ c. search needs) returns)

@@ -23,74 +23,17 @@ text c f p =
     short-text (c .before .before .before .before .before .before .args .negative) (c .before .before .before .before .before .before .args .hours) (c .before .before .before .before .before .before .args .minute) (c .before .before .before .before .before .before .args .second) f (c .before .before .before .before .hour-sign .ensures)
     (two-is (c .before .before .before .before .before .before .args .hours) (c .before .before .before .before .before .before .pre .1) (c .before .before .before .tens .ensures) (c .before .before .ones .ensures)) p
 
-hour-sign-requires : tie.Need-hour-sign-requires
-hour-sign-requires c κs = search needs
-
-tens-requires : tie.Need-tens-requires
-tens-requires c κs = search needs
-
-ones-requires : tie.Need-ones-requires
-ones-requires c κs = search needs
-
-tens-requires-2 : tie.Need-tens-requires-2
-tens-requires-2 c κs = search needs
-
-ones-requires-2 : tie.Need-ones-requires-2
-ones-requires-2 c κs = search needs
-
-slice-aggregate-put : tie.Need-slice-aggregate-put
-slice-aggregate-put c = search needs
-
-put-requires : tie.Need-put-requires
-put-requires c κs = search needs
-
-slice-aggregate-put-2 : tie.Need-slice-aggregate-put-2
-slice-aggregate-put-2 c = search needs
-
-put-requires-2 : tie.Need-put-requires-2
-put-requires-2 c κs = search needs
-
-slice-aggregate-put-3 : tie.Need-slice-aggregate-put-3
-slice-aggregate-put-3 c = search needs
-
-put-requires-3 : tie.Need-put-requires-3
-put-requires-3 c κs = search needs
-
-tens-requires-3 : tie.Need-tens-requires-3
-tens-requires-3 c κs = search needs
-
-ones-requires-3 : tie.Need-ones-requires-3
-ones-requires-3 c κs = search needs
-
-slice-aggregate-put-4 : tie.Need-slice-aggregate-put-4
-slice-aggregate-put-4 c = search needs
-
-put-requires-4 : tie.Need-put-requires-4
-put-requires-4 c κs = search needs
-
-same-length : tie.Need-same-length
-same-length c = search needs
-
 returns : tie.Need-returns
 unfolding lengthOfForm partsText
 returns c = λ limit form e. said (text (c .before .before .before .before .before .before) (form-told hh form (c .before .before .before .before .before .match .keys1) e) refl) (c .before .before .put .ensures limit)
-
-same-length-2 : tie.Need-same-length-2
-same-length-2 c = search needs
 
 returns-2 : tie.Need-returns-2
 unfolding lengthOfForm partsText
 returns-2 c = λ limit form e. said (text (c .before .before .before .before .before .before) (form-told hhmm form (c .before .before .before .before .before .match .keys2) e) (minutes (c .before .before .before .before .before .before))) (c .before .before .put2 .ensures limit)
 
-same-length-3 : tie.Need-same-length-3
-same-length-3 c = search needs
-
 returns-3 : tie.Need-returns-3
 unfolding lengthOfForm
 returns-3 c = λ limit form e. said (text (c .before .before .before .before .before .before) (form-told hh:mm form (c .before .before .before .before .before .match .keys3) e) (colon-minute _ _ (minutes (c .before .before .before .before .before .before)))) (c .before .before .put3 .ensures limit)
-
-same-length-4 : tie.Need-same-length-4
-same-length-4 c = search needs
 
 returns-4 : tie.Need-returns-4
 returns-4 c = let s = c .before .before .before .before .before .before .before .before .before .before .before .before .before .before in
@@ -102,28 +45,8 @@ returns-4 c = let s = c .before .before .before .before .before .before .before 
 
 pub write-short-spec : {M : Type 1} → statement M
 write-short-spec =
-    tie.close
-    (tie.spec
-    hour-sign-requires
-    tens-requires
-    ones-requires
-    tens-requires-2
-    ones-requires-2
-    slice-aggregate-put
-    put-requires
-    slice-aggregate-put-2
-    put-requires-2
-    slice-aggregate-put-3
-    put-requires-3
-    tens-requires-3
-    ones-requires-3
-    slice-aggregate-put-4
-    put-requires-4
-    same-length
-    returns
-    same-length-2
-    returns-2
-    same-length-3
-    returns-3
-    same-length-4
-    returns-4)
+    tie.close (tie.spec (λ c κs. search needs) (λ c κs. search needs) (λ c κs. search needs) (λ c κs. search needs)
+    (λ c κs. search needs) (λ c. search needs) (λ c κs. search needs) (λ c. search needs) (λ c κs. search needs)
+    (λ c. search needs) (λ c κs. search needs) (λ c κs. search needs) (λ c κs. search needs) (λ c. search needs)
+    (λ c κs. search needs) (λ c. search needs) returns (λ c. search needs) returns-2 (λ c. search needs) returns-3
+    (λ c. search needs) returns-4)

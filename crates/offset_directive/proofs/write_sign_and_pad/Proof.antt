@@ -5,27 +5,9 @@ use borrow.Author.Needs.{needs}
 use Rattle.offset_directive.proofs.write_sign_and_pad.Statement.{statement}
 use Rattle.offset_directive.proofs.write_sign_and_pad.Tie as tie
 
-pad-requires : tie.Need-pad-requires
-pad-requires c κs = search needs
-
-write-hour-sign-requires : tie.Need-write-hour-sign-requires
-write-hour-sign-requires c κs = search needs
-
-same-length : tie.Need-same-length
-same-length c = search needs
-
 returns : tie.Need-returns
 unfolding signAndPad
 returns c = rw (c .before .before .before .before .before .before .before .before .if1 .taken) (c .before .before .before .before .before .before .pad .ensures then c .before .before .write-hour-sign .ensures _)
-
-write-hour-sign-requires-2 : tie.Need-write-hour-sign-requires-2
-write-hour-sign-requires-2 c κs = search needs
-
-pad-requires-2 : tie.Need-pad-requires-2
-pad-requires-2 c κs = search needs
-
-same-length-2 : tie.Need-same-length-2
-same-length-2 c = search needs
 
 returns-2 : tie.Need-returns-2
 unfolding signAndPad
@@ -33,13 +15,5 @@ returns-2 c = rw (c .before .before .before .before .before .before .before .bef
 
 pub write-sign-and-pad-spec : {M : Type 1} → statement M
 write-sign-and-pad-spec =
-    tie.close
-    (tie.spec
-    pad-requires
-    write-hour-sign-requires
-    same-length
-    returns
-    write-hour-sign-requires-2
-    pad-requires-2
-    same-length-2
-    returns-2)
+    tie.close (tie.spec (λ c κs. search needs) (λ c κs. search needs) (λ c. search needs) returns (λ c κs. search needs)
+    (λ c κs. search needs) (λ c. search needs) returns-2)

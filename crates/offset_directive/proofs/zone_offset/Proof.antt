@@ -21,24 +21,12 @@ told-length c = length-is _ _ _ (parts (c .before)) _ (c .form-length .ensures)
 short : (c : tie.Then2) → Short (c .before .before .before .before .before .before .args .width) (c .before .before .before .form-length .result) (c .before .before .before .before .before .before .args .spaces) (c .before .before .before .before .offset-parts .result .minus) (c .before .before .before .before .offset-parts .result .hours)
 short c = short-is _ _ _ _ _ (c .before .is-short .ensures) (c .if2 .taken)
 
-offset-parts-requires : tie.Need-offset-parts-requires
-offset-parts-requires c κs = search needs
-
-form-length-requires : tie.Need-form-length-requires
-form-length-requires c κs = search needs
-
-is-short-requires : tie.Need-is-short-requires
-is-short-requires c κs = search needs
-
 cast-hours : tie.Need-cast-hours
 cast-hours c = let k = below-hundred (short (c .before)) in record { fits = omega arith }
 
 write-short-requires : tie.Need-write-short-requires
 write-short-requires c κs = let small = small-parts _ _ _ (parts (c .before .before .before .before .before .before)) in
     (c .before .before .before .before .before .before .before .before .pre .0, below-hundred (short (c .before .before)), small .minutes, small .seconds)
-
-same-length : tie.Need-same-length
-same-length c = search needs
 
 returns : tie.Need-returns
 returns c = let a = c .before .before .before .before .before .before .before .before .before .before .before .args in
@@ -51,23 +39,10 @@ returns c = let a = c .before .before .before .before .before .before .before .b
 write-long-requires : tie.Need-write-long-requires
 write-long-requires c κs = (c .before .before .before .before .before .pre .0, c .before .before .before .before .before .pre .1, small-parts _ _ _ (parts (c .before .before .before)))
 
-same-length-2 : tie.Need-same-length-2
-same-length-2 c = search needs
-
 returns-2 : tie.Need-returns-2
 returns-2 c = of-offset _ _ _ (parts (c .before .before .before .before .before .before)) _ _ _ (c .before .before .write-long .ensures _ (told-length (c .before .before .before .before .before)))
 
 pub zone-offset-spec : {M : Type 1} → statement M
 zone-offset-spec =
-    tie.close
-    (tie.spec
-    offset-parts-requires
-    form-length-requires
-    is-short-requires
-    cast-hours
-    write-short-requires
-    same-length
-    returns
-    write-long-requires
-    same-length-2
-    returns-2)
+    tie.close (tie.spec (λ c κs. search needs) (λ c κs. search needs) (λ c κs. search needs) cast-hours
+    write-short-requires (λ c. search needs) returns write-long-requires (λ c. search needs) returns-2)

@@ -11,37 +11,16 @@ use borrow.Author.Needs.{needs}
 use Rattle.printing.proofs.put_decimal.Statement.{statement}
 use Rattle.printing.proofs.put_decimal.Tie as tie
 
-put-spaced-requires : tie.Need-put-spaced-requires
-put-spaced-requires c κs = search needs
-
-same-length : tie.Need-same-length
-same-length c = search needs
-
 returns : tie.Need-returns
 returns c =
     let a = c .before .before .before .before .before .before .args in
     λ limit. said (as-asked (a .width) (not-true (a .zeros) (c .before .before .before .before .if1 .taken)) (sym (toZ-ofZ w64 (a .v) (c .before .before .before .before .before .before .fits .v)))) (c .before .before .put-spaced .ensures limit)
-
-unsigned-abs64-requires : tie.Need-unsigned-abs64-requires
-unsigned-abs64-requires c κs = search needs
-
-put-negative-requires : tie.Need-put-negative-requires
-put-negative-requires c κs = search needs
-
-same-length-2 : tie.Need-same-length-2
-same-length-2 c = search needs
 
 returns-2 : tie.Need-returns-2
 returns-2 c =
     let a = c .before .before .before .before .before .before .before .before .args in
     let s = negative w64 (a .v) (c .before .before .before .before .before .before .before .before .fits .v) _ (c .before .before .before .before .before .unsigned-abs64 .ensures) (c .before .before .before .before .if2 .taken) in
     λ limit. said (as-asked (a .width) (not-false (a .zeros) (c .before .before .before .before .before .before .if1 .left)) (s .1)) (c .before .before .put-negative .ensures limit _ (s .0))
-
-put-zeros-requires : tie.Need-put-zeros-requires
-put-zeros-requires c κs = search needs
-
-same-length-3 : tie.Need-same-length-3
-same-length-3 c = search needs
 
 returns-3 : tie.Need-returns-3
 returns-3 c =
@@ -51,15 +30,5 @@ returns-3 c =
 
 pub put-decimal-spec : {M : Type 1} → statement M
 put-decimal-spec =
-    tie.close
-    (tie.spec
-    put-spaced-requires
-    same-length
-    returns
-    unsigned-abs64-requires
-    put-negative-requires
-    same-length-2
-    returns-2
-    put-zeros-requires
-    same-length-3
-    returns-3)
+    tie.close (tie.spec (λ c κs. search needs) (λ c. search needs) returns (λ c κs. search needs) (λ c κs. search needs)
+    (λ c. search needs) returns-2 (λ c κs. search needs) (λ c. search needs) returns-3)

@@ -5,21 +5,6 @@ use borrow.Author.Needs.{needs}
 use Rattle.printing.proofs.put_negative.Statement.{statement}
 use Rattle.printing.proofs.put_negative.Tie as tie
 
-slice-aggregate-put : tie.Need-slice-aggregate-put
-slice-aggregate-put c = search needs
-
-put-requires : tie.Need-put-requires
-put-requires c κs = search needs
-
-saturating-sub-requires : tie.Need-saturating-sub-requires
-saturating-sub-requires c κs = search needs
-
-put-zeros-requires : tie.Need-put-zeros-requires
-put-zeros-requires c κs = search needs
-
-same-length : tie.Need-same-length
-same-length c = search needs
-
 returns : tie.Need-returns
 returns c =
     let a = c .before .before .before .before .before .before .before .before .before .before .before .args in
@@ -27,11 +12,5 @@ returns c =
 
 pub put-negative-spec : {M : Type 1} → statement M
 put-negative-spec =
-    tie.close
-    (tie.spec
-    slice-aggregate-put
-    put-requires
-    saturating-sub-requires
-    put-zeros-requires
-    same-length
-    returns)
+    tie.close (tie.spec (λ c. search needs) (λ c κs. search needs) (λ c κs. search needs) (λ c κs. search needs)
+    (λ c. search needs) returns)

@@ -5,37 +5,15 @@ use borrow.Author.Needs.{needs}
 use Rattle.printing.proofs.put_run.Statement.{statement}
 use Rattle.printing.proofs.put_run.Tie as tie
 
-fits-requires : tie.Need-fits-requires
-fits-requires c κs = search needs
-
-pad-requires : tie.Need-pad-requires
-pad-requires c κs = search needs
-
-same-length : tie.Need-same-length
-same-length c = search needs
-
 returns : tie.Need-returns
 returns c =
     let k = fits-yes _ _ (c .before .before .before .before .before .fits2 .ensures) (c .before .before .before .before .if1 .taken) in
     λ limit. pad-put (c .before .before .pad .ensures) k (c .before .before .before .before .before .before .before .pre)
-
-run-short-requires : tie.Need-run-short-requires
-run-short-requires c κs = search needs
-
-same-length-2 : tie.Need-same-length-2
-same-length-2 c = search needs
 
 returns-2 : tie.Need-returns-2
 returns-2 c = c .before .before .run-short .ensures
 
 pub put-run-spec : {M : Type 1} → statement M
 put-run-spec =
-    tie.close
-    (tie.spec
-    fits-requires
-    pad-requires
-    same-length
-    returns
-    run-short-requires
-    same-length-2
-    returns-2)
+    tie.close (tie.spec (λ c κs. search needs) (λ c κs. search needs) (λ c. search needs) returns (λ c κs. search needs)
+    (λ c. search needs) returns-2)

@@ -13,26 +13,11 @@ use borrow.Author.Needs.{needs}
 use Rattle.printing.proofs.put_spaced.Statement.{statement}
 use Rattle.printing.proofs.put_spaced.Tie as tie
 
-decimal-text-requires : tie.Need-decimal-text-requires
-decimal-text-requires c κs = search needs
-
-saturating-sub-requires : tie.Need-saturating-sub-requires
-saturating-sub-requires c κs = search needs
-
-put-run-requires : tie.Need-put-run-requires
-put-run-requires c κs = search needs
-
 array-share-prefix-bytes : tie.Need-array-share-prefix-bytes
 array-share-prefix-bytes c = let d = c .before .before .before .before .before .before .before .decimal-text .ensures in text-within _ _ _ _ (d .0) (d .1)
 
 slice-aggregate-put : tie.Need-slice-aggregate-put
 slice-aggregate-put c = let d = c .before .before .before .before .before .before .before .before .decimal-text .ensures in sym (length-take-le _ _ (text-within _ _ _ _ (d .0) (d .1)))
-
-put-requires : tie.Need-put-requires
-put-requires c κs = search needs
-
-same-length : tie.Need-same-length
-same-length c = search needs
 
 returns : tie.Need-returns
 returns c =
@@ -46,13 +31,5 @@ returns c =
 
 pub put-spaced-spec : {M : Type 1} → statement M
 put-spaced-spec =
-    tie.close
-    (tie.spec
-    decimal-text-requires
-    saturating-sub-requires
-    put-run-requires
-    array-share-prefix-bytes
-    slice-aggregate-put
-    put-requires
-    same-length
-    returns)
+    tie.close (tie.spec (λ c κs. search needs) (λ c κs. search needs) (λ c κs. search needs) array-share-prefix-bytes
+    slice-aggregate-put (λ c κs. search needs) (λ c. search needs) returns)

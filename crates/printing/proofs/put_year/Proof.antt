@@ -12,42 +12,15 @@ use borrow.Author.Needs.{needs}
 use Rattle.printing.proofs.put_year.Statement.{statement}
 use Rattle.printing.proofs.put_year.Tie as tie
 
-unsigned-abs-requires : tie.Need-unsigned-abs-requires
-unsigned-abs-requires c κs = search needs
-
-cast-put-negative : tie.Need-cast-put-negative
-cast-put-negative c = search needs
-
-put-negative-requires : tie.Need-put-negative-requires
-put-negative-requires c κs = search needs
-
-same-length : tie.Need-same-length
-same-length c = search needs
-
 returns : tie.Need-returns
 returns c =
     let s = negative w32 _ (c .before .before .before .before .before .before .before .fits .year) _ (c .before .before .before .before .before .unsigned-abs .ensures) (c .before .before .before .before .if1 .taken) in
     λ limit. said (sym (ap yearText (s .1))) (c .before .before .put-negative .ensures limit _ (s .0))
 
-put-four-requires : tie.Need-put-four-requires
-put-four-requires c κs = search needs
-
-same-length-2 : tie.Need-same-length-2
-same-length-2 c = search needs
-
 returns-2 : tie.Need-returns-2
 returns-2 c =
     let s = natural w32 _ (c .before .before .before .before .before .before .before .before .fits .year) _ (c .before .before .before .before .before .before .unsigned-abs .ensures) (c .before .before .before .before .before .if1 .left) in
     λ limit. said (sym (ap yearText s ∙ filled-zeros-places 4 _ (c .before .before .before .before .if2 .taken) (omega arith))) (c .before .before .put-four .ensures limit)
-
-cast-put-digits : tie.Need-cast-put-digits
-cast-put-digits c = search needs
-
-put-digits-requires : tie.Need-put-digits-requires
-put-digits-requires c κs = search needs
-
-same-length-3 : tie.Need-same-length-3
-same-length-3 c = search needs
 
 returns-3 : tie.Need-returns-3
 returns-3 c =
@@ -56,17 +29,6 @@ returns-3 c =
 
 pub put-year-spec : {M : Type 1} → statement M
 put-year-spec =
-    tie.close
-    (tie.spec
-    unsigned-abs-requires
-    cast-put-negative
-    put-negative-requires
-    same-length
-    returns
-    put-four-requires
-    same-length-2
-    returns-2
-    cast-put-digits
-    put-digits-requires
-    same-length-3
+    tie.close (tie.spec (λ c κs. search needs) (λ c. search needs) (λ c κs. search needs) (λ c. search needs) returns
+    (λ c κs. search needs) (λ c. search needs) returns-2 (λ c. search needs) (λ c κs. search needs) (λ c. search needs)
     returns-3)

@@ -5,15 +5,6 @@ use Rattle.rules.specs.Reading.{onFlag}
 use Rattle.reading.proofs.flag_step.Statement.{statement}
 use Rattle.reading.proofs.flag_step.Tie as tie
 
-set-requires : tie.Need-set-requires
-set-requires c κs = search needs
-
-set-requires-2 : tie.Need-set-requires-2
-set-requires-2 c κs = search needs
-
-set-requires-3 : tie.Need-set-requires-3
-set-requires-3 c κs = search needs
-
 returns : tie.Need-returns
 unfolding onFlag
 returns c other = rw (c .before .match .keys1, c .set .ensures)
@@ -40,14 +31,5 @@ returns-6 c other = simp (ne-eqb _ _ (c .match .rest .1), ne-eqb _ _ (c .match .
 
 pub flag-step-spec : {M : Type 1} → statement M
 flag-step-spec =
-    tie.close
-    (tie.spec
-    set-requires
-    set-requires-2
-    set-requires-3
-    returns
-    returns-2
-    returns-3
-    returns-4
-    returns-5
-    returns-6)
+    tie.close (tie.spec (λ c κs. search needs) (λ c κs. search needs) (λ c κs. search needs) returns returns-2 returns-3
+    returns-4 returns-5 returns-6)

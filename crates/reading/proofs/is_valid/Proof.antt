@@ -22,18 +22,6 @@ returns c = valid-long _ (c .if1 .taken)
 loop-holds : tie.Need-loop-holds Inv-loop μ-loop
 loop-holds c = refl
 
-shared-slice-read-if2 : tie.Need-shared-slice-read-if2 Inv-loop μ-loop
-shared-slice-read-if2 c = search needs
-
-add-parse-spec : tie.Need-add-parse-spec Inv-loop μ-loop
-add-parse-spec c = search needs
-
-parse-spec-requires : tie.Need-parse-spec-requires Inv-loop μ-loop
-parse-spec-requires c κs = search needs
-
-enum-known-parsed : tie.Need-enum-known-parsed Inv-loop μ-loop
-enum-known-parsed c = search needs
-
 loop-less : tie.Need-loop-less Inv-loop μ-loop
 loop-less c =
     let part = items-at _ _ .percent (c .before .before .before .before .before .before .loop-test .taken) (c .before .before .before .before .if2 .taken) _ (sym (c .before .before .before .parse-spec .ensures) ∙ c .before .parsed .given .1) in
@@ -42,9 +30,6 @@ loop-less c =
 loop-again : tie.Need-loop-again Inv-loop μ-loop
 unfolding whole
 loop-again c = whole-part _ _ _ _ (items-at _ _ .percent (c .before .before .before .before .before .before .loop-test .taken) (c .before .before .before .before .if2 .taken) _ (sym (c .before .before .before .parse-spec .ensures) ∙ c .before .parsed .given .1)) refl ∙ c .before .before .before .before .before .before .before .loop .inv
-
-enum-known-parsed-2 : tie.Need-enum-known-parsed-2 Inv-loop μ-loop
-enum-known-parsed-2 c = search needs
 
 loop-less-2 : tie.Need-loop-less-2 Inv-loop μ-loop
 loop-less-2 c =
@@ -55,17 +40,11 @@ loop-again-2 : tie.Need-loop-again-2 Inv-loop μ-loop
 unfolding whole
 loop-again-2 c = whole-part _ _ _ _ (items-at _ _ .percent (c .before .before .before .before .before .before .loop-test .taken) (c .before .before .before .before .if2 .taken) _ (sym (c .before .before .before .parse-spec .ensures) ∙ c .before .parsed2 .given .1)) refl ∙ c .before .before .before .before .before .before .before .loop .inv
 
-enum-told : tie.Need-enum-told Inv-loop μ-loop
-enum-told c = search needs
-
 returns-2 : tie.Need-returns-2 Inv-loop μ-loop
 unfolding whole
 returns-2 c =
     valid-whole _ (c .before .before .before .before .before .before .before .if1 .left) _
     (whole-last _ _ _ (items-at _ _ .percent (c .before .before .before .before .before .loop-test .taken) (c .before .before .before .if2 .taken) _ (sym (c .before .before .parse-spec .ensures) ∙ c .enum-told .given .1)) ∙ c .before .before .before .before .before .before .loop .inv)
-
-literal-end-requires : tie.Need-literal-end-requires Inv-loop μ-loop
-literal-end-requires c κs = search needs
 
 loop-less-3 : tie.Need-loop-less-3 Inv-loop μ-loop
 loop-less-3 c =
@@ -81,24 +60,6 @@ returns-3 c = valid-whole _ (c .before .before .if1 .left) _ (whole-last _ _ _ (
 
 pub is-valid-spec : {M : Type 1} → statement M
 is-valid-spec =
-    tie.close
-    (tie.spec
-    Inv-loop
-    μ-loop
-    returns
-    loop-holds
-    shared-slice-read-if2
-    add-parse-spec
-    parse-spec-requires
-    enum-known-parsed
-    loop-less
-    loop-again
-    enum-known-parsed-2
-    loop-less-2
-    loop-again-2
-    enum-told
-    returns-2
-    literal-end-requires
-    loop-less-3
-    loop-again-3
-    returns-3)
+    tie.close (tie.spec Inv-loop μ-loop returns loop-holds (λ c. search needs) (λ c. search needs)
+    (λ c κs. search needs) (λ c. search needs) loop-less loop-again (λ c. search needs) loop-less-2 loop-again-2
+    (λ c. search needs) returns-2 (λ c κs. search needs) loop-less-3 loop-again-3 returns-3)

@@ -19,29 +19,8 @@ abbrev μ-loop : tie.MeasureT-loop
 loop-holds : tie.Need-loop-holds Inv-loop μ-loop
 loop-holds c = refl
 
-shared-slice-read-b : tie.Need-shared-slice-read-b Inv-loop μ-loop
-shared-slice-read-b c = search needs
-
-colon-more-requires : tie.Need-colon-more-requires Inv-loop μ-loop
-colon-more-requires c κs = search needs
-
-add-at : tie.Need-add-at Inv-loop μ-loop
-add-at c = search needs
-
-loop-less : tie.Need-loop-less Inv-loop μ-loop
-loop-less c = search needs
-
 loop-again : tie.Need-loop-again Inv-loop μ-loop
 loop-again c = by-turn _ _ _ (c .before .before .before .loop-test .taken) _ (colons-more _ _ _ _ (c .before .if1 .taken) _ (c .colon-more .ensures)) ∙ c .before .before .before .before .loop .inv
-
-colon-entry-requires : tie.Need-colon-entry-requires Inv-loop μ-loop
-colon-entry-requires c κs = search needs
-
-add-enter : tie.Need-add-enter Inv-loop μ-loop
-add-enter c = search needs
-
-enter-requires : tie.Need-enter-requires Inv-loop μ-loop
-enter-requires c κs = search needs
 
 returns : tie.Need-returns Inv-loop μ-loop
 returns c =
@@ -59,19 +38,6 @@ returns-3 c = at-end _ _ _ (c .loop-test .left) _ refl ∙ c .before .loop .inv
 
 pub parse-colons-spec : {M : Type 1} → statement M
 parse-colons-spec =
-    tie.close
-    (tie.spec
-    Inv-loop
-    μ-loop
-    loop-holds
-    shared-slice-read-b
-    colon-more-requires
-    add-at
-    loop-less
-    loop-again
-    colon-entry-requires
-    add-enter
-    enter-requires
-    returns
-    returns-2
+    tie.close (tie.spec Inv-loop μ-loop loop-holds (λ c. search needs) (λ c κs. search needs) (λ c. search needs)
+    (λ c. search needs) loop-again (λ c κs. search needs) (λ c. search needs) (λ c κs. search needs) returns returns-2
     returns-3)

@@ -16,35 +16,11 @@ Inv-loop format start o₀ at₀ o at = parseFrom (InFlags o) at (drop at format
 abbrev μ-loop : tie.MeasureT-loop
 μ-loop format start o₀ at₀ o at = length format - at
 
-outset-requires : tie.Need-outset-requires Inv-loop μ-loop
-outset-requires c κs = search needs
-
 loop-holds : tie.Need-loop-holds Inv-loop μ-loop
 loop-holds c = rw (c .outset .ensures)
 
-shared-slice-read-b : tie.Need-shared-slice-read-b Inv-loop μ-loop
-shared-slice-read-b c = search needs
-
-flag-step-requires : tie.Need-flag-step-requires Inv-loop μ-loop
-flag-step-requires c κs = search needs
-
-enum-known-more : tie.Need-enum-known-more Inv-loop μ-loop
-enum-known-more c = search needs
-
-enum-told : tie.Need-enum-told Inv-loop μ-loop
-enum-told c = search needs
-
-is-digit-requires : tie.Need-is-digit-requires Inv-loop μ-loop
-is-digit-requires c κs = search needs
-
 width-with-requires : tie.Need-width-with-requires Inv-loop μ-loop
 width-with-requires c κs = sym (c .before .is-digit .ensures) ∙ c .if1 .taken
-
-add-parse-width : tie.Need-add-parse-width Inv-loop μ-loop
-add-parse-width c = search needs
-
-parse-width-requires : tie.Need-parse-width-requires Inv-loop μ-loop
-parse-width-requires c κs = search needs
 
 returns : tie.Need-returns Inv-loop μ-loop
 returns c =
@@ -52,20 +28,11 @@ returns c =
     ∙ by-turn _ _ _ (c .before .before .before .before .before .before .before .before .loop-test .taken) _ (flags-digit _ _ _ (c .before .before .before .before .before .before .flag-step .ensures) (c .before .before .before .before .enum-told .given .1) (sym (c .before .before .before .is-digit .ensures) ∙ c .before .before .if1 .taken) _ (c .before .width-with .ensures))
     ∙ c .before .before .before .before .before .before .before .before .before .loop .inv
 
-parse-letter-requires : tie.Need-parse-letter-requires Inv-loop μ-loop
-parse-letter-requires c κs = search needs
-
 returns-2 : tie.Need-returns-2 Inv-loop μ-loop
 returns-2 c =
     c .parse-letter .ensures
     ∙ by-turn _ _ _ (c .before .before .before .before .before .before .before .loop-test .taken) _ (flags-letter _ _ _ (c .before .before .before .before .before .flag-step .ensures) (c .before .before .before .enum-told .given .1) (sym (c .before .before .is-digit .ensures) ∙ c .before .if1 .left))
     ∙ c .before .before .before .before .before .before .before .before .loop .inv
-
-add-at : tie.Need-add-at Inv-loop μ-loop
-add-at c = search needs
-
-loop-less : tie.Need-loop-less Inv-loop μ-loop
-loop-less c = search needs
 
 loop-again : tie.Need-loop-again Inv-loop μ-loop
 loop-again c = by-turn _ _ _ (c .before .before .before .before .before .loop-test .taken) _ (flags-flag _ _ _ (c .before .before .before .flag-step .ensures) _ (c .before .more .given .1)) ∙ c .before .before .before .before .before .before .loop .inv
@@ -76,24 +43,7 @@ returns-3 c = at-end _ _ _ (c .loop-test .left) _ refl ∙ c .before .loop .inv
 
 pub parse-flags-spec : {M : Type 1} → statement M
 parse-flags-spec =
-    tie.close
-    (tie.spec
-    Inv-loop
-    μ-loop
-    outset-requires
-    loop-holds
-    shared-slice-read-b
-    flag-step-requires
-    enum-known-more
-    enum-told
-    is-digit-requires
-    width-with-requires
-    add-parse-width
-    parse-width-requires
-    returns
-    parse-letter-requires
-    returns-2
-    add-at
-    loop-less
-    loop-again
+    tie.close (tie.spec Inv-loop μ-loop (λ c κs. search needs) loop-holds (λ c. search needs) (λ c κs. search needs)
+    (λ c. search needs) (λ c. search needs) (λ c κs. search needs) width-with-requires (λ c. search needs)
+    (λ c κs. search needs) returns (λ c κs. search needs) returns-2 (λ c. search needs) (λ c. search needs) loop-again
     returns-3)

@@ -6,36 +6,6 @@ use Rattle.reading.proofs.Laws.{by-entry, same-turn, letter-colon, lett
 use Rattle.reading.proofs.parse_letter.Statement.{statement}
 use Rattle.reading.proofs.parse_letter.Tie as tie
 
-shared-slice-read-b : tie.Need-shared-slice-read-b
-shared-slice-read-b c = search needs
-
-add-parse-colons : tie.Need-add-parse-colons
-add-parse-colons c = search needs
-
-parse-colons-requires : tie.Need-parse-colons-requires
-parse-colons-requires c κs = search needs
-
-add-parse-modified : tie.Need-add-parse-modified
-add-parse-modified c = search needs
-
-parse-modified-requires : tie.Need-parse-modified-requires
-parse-modified-requires c κs = search needs
-
-add-parse-modified-2 : tie.Need-add-parse-modified-2
-add-parse-modified-2 c = search needs
-
-parse-modified-requires-2 : tie.Need-parse-modified-requires-2
-parse-modified-requires-2 c κs = search needs
-
-spec-of-requires : tie.Need-spec-of-requires
-spec-of-requires c κs = search needs
-
-add-enter : tie.Need-add-enter
-add-enter c = search needs
-
-enter-requires : tie.Need-enter-requires
-enter-requires c κs = search needs
-
 returns : tie.Need-returns
 returns c = c .parse-colons .ensures ∙ same-turn _ _ _ _ (letter-colon _ _ _ (c .before .match .keys1))
 
@@ -55,20 +25,6 @@ returns-5 c =
 
 pub parse-letter-spec : {M : Type 1} → statement M
 parse-letter-spec =
-    tie.close
-    (tie.spec
-    shared-slice-read-b
-    add-parse-colons
-    parse-colons-requires
-    add-parse-modified
-    parse-modified-requires
-    add-parse-modified-2
-    parse-modified-requires-2
-    spec-of-requires
-    add-enter
-    enter-requires
-    returns
-    returns-2
-    returns-3
-    returns-4
-    returns-5)
+    tie.close (tie.spec (λ c. search needs) (λ c. search needs) (λ c κs. search needs) (λ c. search needs)
+    (λ c κs. search needs) (λ c. search needs) (λ c κs. search needs) (λ c κs. search needs) (λ c. search needs)
+    (λ c κs. search needs) returns returns-2 returns-3 returns-4 returns-5)

@@ -6,21 +6,6 @@ use Rattle.reading.proofs.Laws.{by-turn, by-entry, at-end, modifier-ski
 use Rattle.reading.proofs.parse_modified.Statement.{statement}
 use Rattle.reading.proofs.parse_modified.Tie as tie
 
-shared-slice-read-b : tie.Need-shared-slice-read-b
-shared-slice-read-b c = search needs
-
-skips-requires : tie.Need-skips-requires
-skips-requires c κs = search needs
-
-spec-of-requires : tie.Need-spec-of-requires
-spec-of-requires c κs = search needs
-
-add-enter : tie.Need-add-enter
-add-enter c = search needs
-
-enter-requires : tie.Need-enter-requires
-enter-requires c κs = search needs
-
 returns : tie.Need-returns
 returns c =
     c .enter .ensures
@@ -36,13 +21,5 @@ returns-3 c = at-end _ _ _ (c .if1 .left) _ refl
 
 pub parse-modified-spec : {M : Type 1} → statement M
 parse-modified-spec =
-    tie.close
-    (tie.spec
-    shared-slice-read-b
-    skips-requires
-    spec-of-requires
-    add-enter
-    enter-requires
-    returns
-    returns-2
-    returns-3)
+    tie.close (tie.spec (λ c. search needs) (λ c κs. search needs) (λ c κs. search needs) (λ c. search needs)
+    (λ c κs. search needs) returns returns-2 returns-3)

@@ -5,24 +5,6 @@ use Rattle.reading.proofs.Laws.{by-turn, by-entry, same-options}
 use Rattle.reading.proofs.parse_spec.Statement.{statement}
 use Rattle.reading.proofs.parse_spec.Tie as tie
 
-shared-slice-read-b : tie.Need-shared-slice-read-b
-shared-slice-read-b c = search needs
-
-is-letter-requires : tie.Need-is-letter-requires
-is-letter-requires c κs = search needs
-
-spec-of-requires : tie.Need-spec-of-requires
-spec-of-requires c κs = search needs
-
-outset-requires : tie.Need-outset-requires
-outset-requires c κs = search needs
-
-add-enter : tie.Need-add-enter
-add-enter c = search needs
-
-enter-requires : tie.Need-enter-requires
-enter-requires c κs = search needs
-
 returns : tie.Need-returns
 returns c =
     c .enter .ensures
@@ -30,22 +12,7 @@ returns c =
     ∙ by-turn _ _ _ (c .before .before .before .before .before .before .if1 .taken) _ refl
     ∙ same-options _ _ _ _ (c .before .outset .ensures)
 
-parse-flags-requires : tie.Need-parse-flags-requires
-parse-flags-requires c κs = search needs
-
-returns-2 : tie.Need-returns-2
-returns-2 c = search needs
-
 pub parse-spec-spec : {M : Type 1} → statement M
 parse-spec-spec =
-    tie.close
-    (tie.spec
-    shared-slice-read-b
-    is-letter-requires
-    spec-of-requires
-    outset-requires
-    add-enter
-    enter-requires
-    returns
-    parse-flags-requires
-    returns-2)
+    tie.close (tie.spec (λ c. search needs) (λ c κs. search needs) (λ c κs. search needs) (λ c κs. search needs)
+    (λ c. search needs) (λ c κs. search needs) returns (λ c κs. search needs) (λ c. search needs))

@@ -20,43 +20,22 @@ abbrev μ-loop : tie.MeasureT-loop
 loop-holds : tie.Need-loop-holds Inv-loop μ-loop
 loop-holds c = refl
 
-shared-slice-read-b : tie.Need-shared-slice-read-b Inv-loop μ-loop
-shared-slice-read-b c = search needs
-
-is-digit-requires : tie.Need-is-digit-requires Inv-loop μ-loop
-is-digit-requires c κs = search needs
-
 width-with-requires : tie.Need-width-with-requires Inv-loop μ-loop
 width-with-requires c κs = sym (c .before .is-digit .ensures) ∙ c .if1 .taken
 
-add-at : tie.Need-add-at Inv-loop μ-loop
-add-at c = search needs
-
-loop-less : tie.Need-loop-less Inv-loop μ-loop
-loop-less c = search needs
-
 loop-again : tie.Need-loop-again Inv-loop μ-loop
 loop-again c = by-turn _ _ _ (c .before .before .before .before .loop-test .taken) _ (width-digit _ _ _ (sym (c .before .before .is-digit .ensures) ∙ c .before .if1 .taken) _ (c .width-with .ensures)) ∙ c .before .before .before .before .before .loop .inv
-
-too-wide-requires : tie.Need-too-wide-requires Inv-loop μ-loop
-too-wide-requires c κs = search needs
 
 returns : tie.Need-returns Inv-loop μ-loop
 returns c =
     by-turn _ _ _ (c .before .before .before .before .before .loop-test .taken) _ (width-wide _ _ _ (sym (c .before .before .before .is-digit .ensures) ∙ c .before .before .if1 .left) (sym (c .before .too-wide .ensures) ∙ c .if2 .taken))
     ∙ c .before .before .before .before .before .before .loop .inv
 
-parse-letter-requires : tie.Need-parse-letter-requires Inv-loop μ-loop
-parse-letter-requires c κs = search needs
-
 returns-2 : tie.Need-returns-2 Inv-loop μ-loop
 returns-2 c =
     c .parse-letter .ensures
     ∙ by-turn _ _ _ (c .before .before .before .before .before .before .loop-test .taken) _ (width-letter _ _ _ (sym (c .before .before .before .before .is-digit .ensures) ∙ c .before .before .before .if1 .left) (sym (c .before .before .too-wide .ensures) ∙ c .before .if2 .left))
     ∙ c .before .before .before .before .before .before .before .loop .inv
-
-too-wide-requires-2 : tie.Need-too-wide-requires-2 Inv-loop μ-loop
-too-wide-requires-2 c κs = search needs
 
 returns-3 : tie.Need-returns-3 Inv-loop μ-loop
 unfolding open?
@@ -68,21 +47,6 @@ returns-4 c = at-end _ _ _ (c .before .before .loop-test .left) _ (ap not (sym (
 
 pub parse-width-spec : {M : Type 1} → statement M
 parse-width-spec =
-    tie.close
-    (tie.spec
-    Inv-loop
-    μ-loop
-    loop-holds
-    shared-slice-read-b
-    is-digit-requires
-    width-with-requires
-    add-at
-    loop-less
-    loop-again
-    too-wide-requires
-    returns
-    parse-letter-requires
-    returns-2
-    too-wide-requires-2
-    returns-3
-    returns-4)
+    tie.close (tie.spec Inv-loop μ-loop loop-holds (λ c. search needs) (λ c κs. search needs) width-with-requires
+    (λ c. search needs) (λ c. search needs) loop-again (λ c κs. search needs) returns (λ c κs. search needs) returns-2
+    (λ c κs. search needs) returns-3 returns-4)

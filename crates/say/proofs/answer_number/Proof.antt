@@ -4,18 +4,6 @@ use Rattle.rules.specs.Refusal.{numbered}
 use Rattle.say.proofs.answer_number.Statement.{statement}
 use Rattle.say.proofs.answer_number.Tie as tie
 
-enum-told : tie.Need-enum-told
-enum-told c = search needs
-
-enum-known-answer : tie.Need-enum-known-answer
-enum-known-answer c = search needs
-
-number-of-requires : tie.Need-number-of-requires
-number-of-requires c κs = search needs
-
-cast-result : tie.Need-cast-result
-cast-result c = search needs
-
 returns : tie.Need-returns
 unfolding numbered
 returns c = search needs
@@ -26,4 +14,5 @@ returns-2 c = simp (c .before .before .answer .given .1, c .number-of .ensures)
 
 pub answer-number-spec : {M : Type 1} → statement M
 answer-number-spec =
-    tie.close (tie.spec enum-told enum-known-answer number-of-requires cast-result returns returns-2)
+    tie.close (tie.spec (λ c. search needs) (λ c. search needs) (λ c κs. search needs) (λ c. search needs) returns
+    returns-2)

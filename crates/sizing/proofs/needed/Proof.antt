@@ -10,23 +10,8 @@ use borrow.Author.Needs.{needs}
 use Rattle.sizing.proofs.needed.Statement.{statement}
 use Rattle.sizing.proofs.needed.Tie as tie
 
-array-share-prefix-zone : tie.Need-array-share-prefix-zone
-array-share-prefix-zone c = search needs
-
 slice-aggregate-run : tie.Need-slice-aggregate-run
 slice-aggregate-run c = sym (length-take-le _ (replicate 64 (byte "A")) (c .before .before .pre .2))
-
-witness-requires : tie.Need-witness-requires
-witness-requires c κs = search needs
-
-array-borrow-prefix-none : tie.Need-array-borrow-prefix-none
-array-borrow-prefix-none c = search needs
-
-slice-aggregate-run-2 : tie.Need-slice-aggregate-run-2
-slice-aggregate-run-2 c = search needs
-
-run-requires : tie.Need-run-requires
-run-requires c κs = search needs
 
 returns : tie.Need-returns
 returns c =
@@ -39,13 +24,5 @@ returns-2 c =
 
 pub needed-spec : {M : Type 1} → statement M
 needed-spec =
-    tie.close
-    (tie.spec
-    array-share-prefix-zone
-    slice-aggregate-run
-    witness-requires
-    array-borrow-prefix-none
-    slice-aggregate-run-2
-    run-requires
-    returns
-    returns-2)
+    tie.close (tie.spec (λ c. search needs) slice-aggregate-run (λ c κs. search needs) (λ c. search needs)
+    (λ c. search needs) (λ c κs. search needs) returns returns-2)

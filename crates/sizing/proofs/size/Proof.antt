@@ -11,9 +11,6 @@ returns c = format-long _ _ (c .if1 .taken)
 returns-2 : tie.Need-returns-2
 returns-2 c = zone-long _ _ (c .before .if1 .left) (c .if2 .taken)
 
-is-valid-requires : tie.Need-is-valid-requires
-is-valid-requires c κs = search needs
-
 returns-3 : tie.Need-returns-3
 returns-3 c = ends-inside _ _ (c .before .before .before .if1 .left) (c .before .before .if2 .left) (c .before .is-valid .ensures) (c .if3 .taken)
 
@@ -23,9 +20,6 @@ needed-requires c κs = (c .before .before .before .if1 .left, whole-of _ (c .be
 needed-requires-2 : tie.Need-needed-requires-2
 needed-requires-2 c κs = (c .before .before .before .before .if1 .left, whole-of _ (c .before .before .before .before .if1 .left) (c .before .before .is-valid .ensures) (c .before .if3 .left), c .before .before .before .if2 .left, refl)
 
-greater-of-requires : tie.Need-greater-of-requires
-greater-of-requires c κs = search needs
-
 returns-4 : tie.Need-returns-4
 returns-4 c = none-holds _ _ (c .before .before .before .before .before .before .before .if1 .left) (c .before .before .before .before .before .before .if2 .left) (c .before .before .before .before .before .is-valid .ensures) (c .before .before .before .before .if3 .left) (c .before .before .before .needed .ensures) (c .before .before .needed2 .ensures) _ (c .before .greater-of .ensures) (c .if4 .taken)
 
@@ -34,14 +28,5 @@ returns-5 c = holds-all _ _ (c .before .before .before .before .before .before .
 
 pub size-spec : {M : Type 1} → statement M
 size-spec =
-    tie.close
-    (tie.spec
-    returns
-    returns-2
-    is-valid-requires
-    returns-3
-    needed-requires
-    needed-requires-2
-    greater-of-requires
-    returns-4
-    returns-5)
+    tie.close (tie.spec returns returns-2 (λ c κs. search needs) returns-3 needed-requires needed-requires-2
+    (λ c κs. search needs) returns-4 returns-5)

@@ -26,12 +26,6 @@ returns-2 c = declined _ (zone-too-long _ _ _ _ (c .before .if1 .left) (c .if2 .
 returns-3 : tie.Need-returns-3
 returns-3 c = declined _ (buffer-too-long _ _ _ _ (c .before .before .if1 .left) (c .before .if2 .left) (c .if3 .taken))
 
-part-of-requires : tie.Need-part-of-requires
-part-of-requires c κs = search needs
-
-array-borrow-prefix-small : tie.Need-array-borrow-prefix-small
-array-borrow-prefix-small c = search needs
-
 slice-aggregate-run : tie.Need-slice-aggregate-run
 slice-aggregate-run c = sym (length-take-le _ scratch (omega (arith, c .before .part-of .ensures)))
 
@@ -49,12 +43,6 @@ refusal-at-requires c κs = refusal-known (c .before .before .run .ensures) (num
 returns-4 : tie.Need-returns-4
 returns-4 c = refused-there (c .before .before .before .run .ensures) _ (runs _ _ _ _ (c .before .before .before .before .before .before .before .before .if1 .left) (c .before .before .before .before .before .before .before .if2 .left) (c .before .before .before .before .before .before .if3 .left)) _ (c .before .if4 .taken) (c .refusal-at .ensures)
 
-run-requires-2 : tie.Need-run-requires-2
-run-requires-2 c κs = search needs
-
-same-length : tie.Need-same-length
-same-length c = search needs
-
 returns-5 : tie.Need-returns-5
 returns-5 c =
     written-there (c .before .before .run2 .ensures) _ (runs _ _ _ _ (c .before .before .before .before .before .before .before .before .before .before .before .before .if1 .left) (c .before .before .before .before .before .before .before .before .before .before .before .if2 .left) (c .before .before .before .before .before .before .before .before .before .before .if3 .left)) refl refl
@@ -69,9 +57,6 @@ copy-front-requires c κs =
     let held = lent-holds _ _ scratch (omega (arith, c .before .before .before .before .before .before .before .part-of .ensures)) (c .before .before .if5 .left) in
     (inside w (omega arith) (c .before .before .before .if4 .left), back w _ held)
 
-same-length-2 : tie.Need-same-length-2
-same-length-2 c = search needs
-
 returns-6 : tie.Need-returns-6
 returns-6 c =
     let held = lent-holds _ _ scratch (omega (arith, c .before .before .before .before .before .before .before .before .before .before .part-of .ensures)) (c .before .before .before .before .before .if5 .left) in
@@ -79,21 +64,6 @@ returns-6 c =
 
 pub format-spec : {M : Type 1} → statement M
 format-spec =
-    tie.close
-    (tie.spec
-    returns
-    returns-2
-    returns-3
-    part-of-requires
-    array-borrow-prefix-small
-    slice-aggregate-run
-    run-requires
-    refusal-at-requires
-    returns-4
-    run-requires-2
-    same-length
-    returns-5
-    slice-aggregate-copy-front
-    copy-front-requires
-    same-length-2
-    returns-6)
+    tie.close (tie.spec returns returns-2 returns-3 (λ c κs. search needs) (λ c. search needs) slice-aggregate-run
+    run-requires refusal-at-requires returns-4 (λ c κs. search needs) (λ c. search needs) returns-5
+    slice-aggregate-copy-front copy-front-requires (λ c. search needs) returns-6)

@@ -17,17 +17,8 @@ abbrev μ-loop : tie.MeasureT-loop
 loop-holds : tie.Need-loop-holds Inv-loop μ-loop
 loop-holds c = refl
 
-shared-slice-read-if1 : tie.Need-shared-slice-read-if1 Inv-loop μ-loop
-shared-slice-read-if1 c = search needs
-
 returns : tie.Need-returns Inv-loop μ-loop
 returns c = member-hit _ _ _ (c .before .before .loop-test .taken) (c .if1 .taken) ∙ c .before .before .before .loop .inv
-
-add-i : tie.Need-add-i Inv-loop μ-loop
-add-i c = search needs
-
-loop-less : tie.Need-loop-less Inv-loop μ-loop
-loop-less c = search needs
 
 loop-again : tie.Need-loop-again Inv-loop μ-loop
 loop-again c = member-miss _ _ _ (c .before .before .loop-test .taken) (c .if1 .left) ∙ c .before .before .before .loop .inv
@@ -37,5 +28,5 @@ returns-2 c = member-end _ _ _ (c .loop-test .left) ∙ c .before .loop .inv
 
 pub is-in-spec : {M : Type 1} → statement M
 is-in-spec =
-    tie.close
-    (tie.spec Inv-loop μ-loop loop-holds shared-slice-read-if1 returns add-i loop-less loop-again returns-2)
+    tie.close (tie.spec Inv-loop μ-loop loop-holds (λ c. search needs) returns (λ c. search needs) (λ c. search needs)
+    loop-again returns-2)

@@ -6,24 +6,6 @@ use Rattle.table.proofs.Laws.{of-table, of-modifier}
 use Rattle.table.proofs.skips.Statement.{statement}
 use Rattle.table.proofs.skips.Tie as tie
 
-enum-told : tie.Need-enum-told
-enum-told c = search needs
-
-slice-aggregate-is-in : tie.Need-slice-aggregate-is-in
-slice-aggregate-is-in c = search needs
-
-is-in-requires : tie.Need-is-in-requires
-is-in-requires c κs = search needs
-
-enum-told-2 : tie.Need-enum-told-2
-enum-told-2 c = search needs
-
-slice-aggregate-is-in-2 : tie.Need-slice-aggregate-is-in-2
-slice-aggregate-is-in-2 c = search needs
-
-is-in-requires-2 : tie.Need-is-in-requires-2
-is-in-requires-2 c κs = search needs
-
 returns : tie.Need-returns
 unfolding modified
 returns c = c .is-in .ensures ∙ of-table _ _ _ refl ∙ of-modifier _ (c .before .before .enum-told .given .1)
@@ -34,13 +16,5 @@ returns-2 c = c .is-in2 .ensures ∙ of-table _ _ _ refl ∙ of-modifier _ (c .b
 
 pub skips-spec : {M : Type 1} → statement M
 skips-spec =
-    tie.close
-    (tie.spec
-    enum-told
-    slice-aggregate-is-in
-    is-in-requires
-    enum-told-2
-    slice-aggregate-is-in-2
-    is-in-requires-2
-    returns
-    returns-2)
+    tie.close (tie.spec (λ c. search needs) (λ c. search needs) (λ c κs. search needs) (λ c. search needs)
+    (λ c. search needs) (λ c κs. search needs) returns returns-2)

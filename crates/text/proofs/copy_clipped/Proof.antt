@@ -15,34 +15,13 @@ Inv-loop out₀ at src left i₀ out i = (i ≤ length src) × Laid at src out�
 abbrev μ-loop : tie.MeasureT-loop
 μ-loop out₀ at src left i₀ out i = length src - i
 
-sub-left : tie.Need-sub-left Inv-loop μ-loop
-sub-left c = omega arith
-
 loop-holds : tie.Need-loop-holds Inv-loop μ-loop
 loop-holds c = (omega arith, laid-none)
-
-shared-slice-read-out : tie.Need-shared-slice-read-out Inv-loop μ-loop
-shared-slice-read-out c = omega arith
-
-add-out : tie.Need-add-out Inv-loop μ-loop
-add-out c = omega arith
-
-slice-write-out : tie.Need-slice-write-out Inv-loop μ-loop
-slice-write-out c = omega arith
-
-add-i : tie.Need-add-i Inv-loop μ-loop
-add-i c = omega arith
-
-loop-less : tie.Need-loop-less Inv-loop μ-loop
-loop-less c = omega arith
 
 loop-again : tie.Need-loop-again Inv-loop μ-loop
 loop-again c =
     let w = c .before .before .loop .inv .1 in
     (omega arith, ⊎-elim (λ k. rw (k .2) (laid-more w (omega arith))) (λ k. rw (k .1) (laid-past w (omega arith) (omega arith))) (c .if2 .came))
-
-same-length : tie.Need-same-length Inv-loop μ-loop
-same-length c = search needs
 
 returns : tie.Need-returns Inv-loop μ-loop
 returns c = laid-all (c .before .loop .inv .1) (omega arith)
@@ -52,18 +31,5 @@ returns-2 c = sym (overlay-past _ _ _ (c .if1 .left))
 
 pub copy-clipped-spec : {M : Type 1} → statement M
 copy-clipped-spec =
-    tie.close
-    (tie.spec
-    Inv-loop
-    μ-loop
-    sub-left
-    loop-holds
-    shared-slice-read-out
-    add-out
-    slice-write-out
-    add-i
-    loop-less
-    loop-again
-    same-length
-    returns
-    returns-2)
+    tie.close (tie.spec Inv-loop μ-loop (λ c. omega arith) loop-holds (λ c. omega arith) (λ c. omega arith)
+    (λ c. omega arith) (λ c. omega arith) (λ c. omega arith) loop-again (λ c. search needs) returns returns-2)

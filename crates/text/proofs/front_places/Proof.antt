@@ -25,12 +25,6 @@ abbrev μ-loop : tie.MeasureT-loop
 loop-holds : tie.Need-loop-holds Inv-loop μ-loop
 loop-holds c = (c .pre, refl)
 
-sub-k : tie.Need-sub-k Inv-loop μ-loop
-sub-k c = omega arith
-
-loop-less : tie.Need-loop-less Inv-loop μ-loop
-loop-less c = omega arith
-
 loop-again : tie.Need-loop-again Inv-loop μ-loop
 loop-again c = (omega arith, c .before .loop .inv .1 ∙ one-fewer _ _ _ (c .loop-test .taken))
 
@@ -42,4 +36,4 @@ returns c =
 
 pub front-places-spec : {M : Type 1} → statement M
 front-places-spec =
-    tie.close (tie.spec Inv-loop μ-loop loop-holds sub-k loop-less loop-again returns)
+    tie.close (tie.spec Inv-loop μ-loop loop-holds (λ c. omega arith) (λ c. omega arith) loop-again returns)

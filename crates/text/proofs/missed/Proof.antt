@@ -13,9 +13,6 @@ use Rattle.text.proofs.missed.Tie as tie
 returns : tie.Need-returns
 returns c = λ limit t l l′ e h b. refused-clipped (c .if1 .taken) (omega (arith, c .before .pre)) b
 
-fits-requires : tie.Need-fits-requires
-fits-requires c κs = search needs
-
 add-result : tie.Need-add-result
 add-result c = let k = sym (c .before .fits2 .ensures) ∙ c .if2 .taken in omega (arith, leb-true)
 
@@ -23,9 +20,6 @@ returns-2 : tie.Need-returns-2
 returns-2 c =
     let k = fits-yes _ _ (c .before .fits2 .ensures) (c .if2 .taken) in
     λ limit t l l′ e h b. fitting b (omega arith) k (c .before .before .before .pre)
-
-refused-requires : tie.Need-refused-requires
-refused-requires c κs = search needs
 
 returns-3 : tie.Need-returns-3
 returns-3 c =
@@ -36,4 +30,4 @@ returns-3 c =
 
 pub missed-spec : {M : Type 1} → statement M
 missed-spec =
-    tie.close (tie.spec returns fits-requires add-result returns-2 refused-requires returns-3)
+    tie.close (tie.spec returns (λ c κs. search needs) add-result returns-2 (λ c κs. search needs) returns-3)

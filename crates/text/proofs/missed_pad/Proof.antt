@@ -10,22 +10,10 @@ use Rattle.text.proofs.missed_pad.Tie as tie
 returns : tie.Need-returns
 returns c = refused-stays (c .if1 .taken)
 
-fits-requires : tie.Need-fits-requires
-fits-requires c κs = search needs
-
-run-short-requires : tie.Need-run-short-requires
-run-short-requires c κs = search needs
-
-same-length : tie.Need-same-length
-same-length c = search needs
-
 returns-2 : tie.Need-returns-2
 returns-2 c =
     let k = fits-yes _ _ (c .before .before .before .before .before .fits2 .ensures) (c .before .before .before .before .if2 .taken) in
     as-pad (λ z. k) (c .before .before .run-short .ensures _)
-
-refused-requires : tie.Need-refused-requires
-refused-requires c κs = search needs
 
 returns-3 : tie.Need-returns-3
 returns-3 c =
@@ -34,12 +22,5 @@ returns-3 c =
 
 pub missed-pad-spec : {M : Type 1} → statement M
 missed-pad-spec =
-    tie.close
-    (tie.spec
-    returns
-    fits-requires
-    run-short-requires
-    same-length
-    returns-2
-    refused-requires
-    returns-3)
+    tie.close (tie.spec returns (λ c κs. search needs) (λ c κs. search needs) (λ c. search needs) returns-2
+    (λ c κs. search needs) returns-3)

@@ -11,17 +11,11 @@ use borrow.Author.Needs.{needs}
 use Rattle.text.proofs.put_places.Statement.{statement}
 use Rattle.text.proofs.put_places.Tie as tie
 
-fits-requires : tie.Need-fits-requires
-fits-requires c κs = search needs
-
 write-places-requires : tie.Need-write-places-requires
 write-places-requires c κs = fits-yes _ _ (c .before .before .fits2 .ensures) (c .before .if1 .taken)
 
 add-result : tie.Need-add-result
 add-result c = let k = sym (c .before .before .before .before .before .fits2 .ensures) ∙ c .before .before .before .before .if1 .taken in omega (arith, leb-true)
-
-same-length : tie.Need-same-length
-same-length c = search needs
 
 returns : tie.Need-returns
 returns c =
@@ -30,24 +24,10 @@ returns c =
     let e = length-places (a .count) (a .v) in
     λ limit. placed (overlay-between _ _ _ _ e k (c .before .before .write-places .ensures)) (ap (λ (n : ℕ). a .at + n) (sym e)) k (c .before .before .before .before .before .before .before .pre)
 
-places-short-requires : tie.Need-places-short-requires
-places-short-requires c κs = search needs
-
-same-length-2 : tie.Need-same-length-2
-same-length-2 c = search needs
-
 returns-2 : tie.Need-returns-2
 returns-2 c = c .before .before .places-short .ensures
 
 pub put-places-spec : {M : Type 1} → statement M
 put-places-spec =
-    tie.close
-    (tie.spec
-    fits-requires
-    write-places-requires
-    add-result
-    same-length
-    returns
-    places-short-requires
-    same-length-2
-    returns-2)
+    tie.close (tie.spec (λ c κs. search needs) write-places-requires add-result (λ c. search needs) returns
+    (λ c κs. search needs) (λ c. search needs) returns-2)

@@ -11,20 +11,11 @@ use borrow.Author.Needs.{needs}
 use Rattle.text.proofs.put_two.Statement.{statement}
 use Rattle.text.proofs.put_two.Tie as tie
 
-fits-requires : tie.Need-fits-requires
-fits-requires c κs = search needs
-
-tens-requires : tie.Need-tens-requires
-tens-requires c κs = search needs
-
 two-fit : (c : tie.Then1) → c .before .before .before .args .at + 2 ≤ length (c .before .before .before .args .out .now)
 two-fit c = fits-yes _ _ (c .before .fits2 .ensures) (c .if1 .taken)
 
 slice-write-out : tie.Need-slice-write-out
 slice-write-out c = omega (arith, two-fit (c .before))
-
-ones-requires : tie.Need-ones-requires
-ones-requires c κs = search needs
 
 add-out : tie.Need-add-out
 add-out c = omega (arith, two-fit (c .before .before))
@@ -35,36 +26,15 @@ slice-write-out-2 c = simp length-set (omega (arith, two-fit (c .before .before)
 add-result : tie.Need-add-result
 add-result c = omega (arith, two-fit (c .before .before))
 
-same-length : tie.Need-same-length
-same-length c = search needs
-
 returns : tie.Need-returns
 returns c =
     let p = c .before .before .before .before .before .pre in
     λ limit. said (two-is _ (p .1) (c .before .tens .ensures) (c .ones .ensures)) (placed (sym (overlay-two _ _ _ _)) refl (two-fit (c .before .before)) (p .0))
-
-places-short-requires : tie.Need-places-short-requires
-places-short-requires c κs = search needs
-
-same-length-2 : tie.Need-same-length-2
-same-length-2 c = search needs
 
 returns-2 : tie.Need-returns-2
 returns-2 c = c .before .before .places-short .ensures
 
 pub put-two-spec : {M : Type 1} → statement M
 put-two-spec =
-    tie.close
-    (tie.spec
-    fits-requires
-    tens-requires
-    slice-write-out
-    ones-requires
-    add-out
-    slice-write-out-2
-    add-result
-    same-length
-    returns
-    places-short-requires
-    same-length-2
-    returns-2)
+    tie.close (tie.spec (λ c κs. search needs) (λ c κs. search needs) slice-write-out (λ c κs. search needs) add-out
+    slice-write-out-2 add-result (λ c. search needs) returns (λ c κs. search needs) (λ c. search needs) returns-2)

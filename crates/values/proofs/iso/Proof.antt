@@ -9,9 +9,6 @@ use Rattle.values.proofs.Laws.{week-range, in-week, not-in-week}
 use Rattle.values.proofs.iso.Statement.{statement}
 use Rattle.values.proofs.iso.Tie as tie
 
-week-requires : tie.Need-week-requires
-week-requires c κs = search needs
-
 iso-8601-year-and-week-number-requires : tie.Need-iso-8601-year-and-week-number-requires
 iso-8601-year-and-week-number-requires c κs = week-range _ (in-week _ (c .before .before .week .ensures) (c .before .if1 .taken))
 
@@ -25,4 +22,4 @@ returns-2 c = not-in-week _ (c .before .week .ensures) (c .if1 .left)
 
 pub iso-spec : {M : Type 1} → statement M
 iso-spec =
-    tie.close (tie.spec week-requires iso-8601-year-and-week-number-requires returns returns-2)
+    tie.close (tie.spec (λ c κs. search needs) iso-8601-year-and-week-number-requires returns returns-2)

@@ -8,21 +8,6 @@ use borrow.Author.Needs.{needs}
 use Rattle.walk.proofs.parsed_item.Statement.{statement}
 use Rattle.walk.proofs.parsed_item.Tie as tie
 
-add-parse-spec : tie.Need-add-parse-spec
-add-parse-spec c = search needs
-
-parse-spec-requires : tie.Need-parse-spec-requires
-parse-spec-requires c κs = search needs
-
-enum-known-parsed : tie.Need-enum-known-parsed
-enum-known-parsed c = search needs
-
-enum-known-parsed-2 : tie.Need-enum-known-parsed-2
-enum-known-parsed-2 c = search needs
-
-checked-requires : tie.Need-checked-requires
-checked-requires c κs = search needs
-
 returns : tie.Need-returns
 returns c =
     let s = c .before .before .before .before .before .before .before in
@@ -36,9 +21,6 @@ put-part-requires c κs =
     let q = items-at _ _ .percent (s .pre .2) (s .pre .3) _ (sym (c .before .before .before .before .before .parse-spec .ensures) ∙ c .before .before .parsed2 .given .1) in
     (s .pre .0, omega (arith, q .onward), q .within)
 
-same-length : tie.Need-same-length
-same-length c = search needs
-
 returns-2 : tie.Need-returns-2
 returns-2 c =
     let s = c .before .before .before .before .before .before .before .before .before .before .before .before in
@@ -47,9 +29,6 @@ returns-2 c =
 directive-requires : tie.Need-directive-requires
 directive-requires c κs = let s = c .before .before .before .before .before .before .before .before in (s .pre .0, s .pre .1)
 
-same-length-2 : tie.Need-same-length-2
-same-length-2 c = search needs
-
 returns-3 : tie.Need-returns-3
 returns-3 c =
     let s = c .before .before .before .before .before .before .before .before .before .before .before in
@@ -57,17 +36,6 @@ returns-3 c =
 
 pub parsed-item-spec : {M : Type 1} → statement M
 parsed-item-spec =
-    tie.close
-    (tie.spec
-    add-parse-spec
-    parse-spec-requires
-    enum-known-parsed
-    enum-known-parsed-2
-    checked-requires
-    returns
-    put-part-requires
-    same-length
-    returns-2
-    directive-requires
-    same-length-2
-    returns-3)
+    tie.close (tie.spec (λ c. search needs) (λ c κs. search needs) (λ c. search needs) (λ c. search needs)
+    (λ c κs. search needs) returns put-part-requires (λ c. search needs) returns-2 directive-requires
+    (λ c. search needs) returns-3)

@@ -21,9 +21,6 @@ mul-limit c = record { fits = omega arith }
 loop-holds : tie.Need-loop-holds Inv-loop μ-loop
 loop-holds c = walk-start
 
-shared-slice-read-if1 : tie.Need-shared-slice-read-if1 Inv-loop μ-loop
-shared-slice-read-if1 c = search needs
-
 item-requires : tie.Need-item-requires Inv-loop μ-loop
 item-requires c κs = (room-kept (c .before .before .before .before .loop .inv .ran) (c .before .before .before .before .before .before .before .before .pre .0), omega arith, c .before .before .before .loop-test .taken, c .before .if1 .taken)
 
@@ -32,9 +29,6 @@ loop-less c = omega (arith, c .before .before .item .ensures .onward, c .before 
 
 loop-again : tie.Need-loop-again Inv-loop μ-loop
 loop-again c = walk-item _ (c .before .before .before .before .before .before .before .loop .inv) (c .before .before .item .ensures)
-
-literal-end-requires : tie.Need-literal-end-requires Inv-loop μ-loop
-literal-end-requires c κs = search needs
 
 put-part-requires : tie.Need-put-part-requires Inv-loop μ-loop
 put-part-requires c κs =
@@ -58,19 +52,5 @@ returns c = walk-end (c .loop-test .left) (c .before .loop .inv)
 
 pub run-spec : {M : Type 1} → statement M
 run-spec =
-    tie.close
-    (tie.spec
-    Inv-loop
-    μ-loop
-    mul-limit
-    loop-holds
-    shared-slice-read-if1
-    item-requires
-    loop-less
-    loop-again
-    literal-end-requires
-    put-part-requires
-    loop-less-2
-    loop-again-2
-    same-length
-    returns)
+    tie.close (tie.spec Inv-loop μ-loop mul-limit loop-holds (λ c. search needs) item-requires loop-less loop-again
+    (λ c κs. search needs) put-part-requires loop-less-2 loop-again-2 same-length returns)

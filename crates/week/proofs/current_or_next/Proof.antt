@@ -23,9 +23,6 @@ to s = omega (arith, s .pre .day .within, days-to (s .args .year))
 add-week-number : tie.Need-add-week-number
 add-week-number c = omega (arith, to c)
 
-sub-week-number : tie.Need-sub-week-number
-sub-week-number c = search needs
-
 in-last-week-requires : tie.Need-in-last-week-requires
 in-last-week-requires c κs =
     let s = c .before in
@@ -60,12 +57,4 @@ returns-2 c =
 
 pub current-or-next-spec : {M : Type 1} → statement M
 current-or-next-spec =
-    tie.close
-    (tie.spec
-    add-week-number
-    sub-week-number
-    in-last-week-requires
-    add-t10
-    returns
-    cast-t11
-    returns-2)
+    tie.close (tie.spec add-week-number (λ c. search needs) in-last-week-requires add-t10 returns cast-t11 returns-2)

@@ -21,9 +21,6 @@ from c = omega (arith, days c, days-from (c .before .args .year))
 to : (c : tie.After-days-in) → c .days-in .result ≤ 366
 to c = omega (arith, days c, days-to (c .before .args .year))
 
-days-in-requires : tie.Need-days-in-requires
-days-in-requires c κs = search needs
-
 sub-last-year-day : tie.Need-sub-last-year-day
 sub-last-year-day c = omega (arith, from c)
 
@@ -54,13 +51,5 @@ returns-2 c =
 
 pub in-last-week-spec : {M : Type 1} → statement M
 in-last-week-spec =
-    tie.close
-    (tie.spec
-    days-in-requires
-    sub-last-year-day
-    add-week-day-of-last-year-day
-    add-week-day-of-last-year-day-2
-    sub-week-day-of-last-year-day
-    sub-last-monday
-    returns
-    returns-2)
+    tie.close (tie.spec (λ c κs. search needs) sub-last-year-day add-week-day-of-last-year-day
+    add-week-day-of-last-year-day-2 sub-week-day-of-last-year-day sub-last-monday returns returns-2)

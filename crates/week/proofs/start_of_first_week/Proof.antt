@@ -12,15 +12,6 @@ use Rattle.week.proofs.start_of_first_week.Tie as tie
 first-week : (w k first : ℕ) → w ≤ 6 → weekOne w k ≡ first → FirstWeek w k first
 first-week w k first small e = record { is = week-one-is w k small ∙ ap (λ (n : ℕ). pos n -ℤ pos 7) e; to = omega arith }
 
-add-start-of-first-week : tie.Need-add-start-of-first-week
-add-start-of-first-week c = search needs
-
-sub-start-of-first-week : tie.Need-sub-start-of-first-week
-sub-start-of-first-week c = search needs
-
-add-result : tie.Need-add-result
-add-result c = search needs
-
 returns : tie.Need-returns
 returns c = first-week _ _ _ (c .before .pre .0) (omega arith)
 
@@ -29,5 +20,4 @@ returns-2 c = first-week _ _ _ (c .before .pre .0) (omega arith)
 
 pub start-of-first-week-spec : {M : Type 1} → statement M
 start-of-first-week-spec =
-    tie.close
-    (tie.spec add-start-of-first-week sub-start-of-first-week add-result returns returns-2)
+    tie.close (tie.spec (λ c. search needs) (λ c. search needs) (λ c. search needs) returns returns-2)

@@ -13,29 +13,8 @@ start-to : (s : WeekStart) → startOf s ≤ 1
 start-to Sunday = omega arith
 start-to Monday = omega arith
 
-sub-year-day : tie.Need-sub-year-day
-sub-year-day c = search needs
-
-add-start-of-first-week : tie.Need-add-start-of-first-week
-add-start-of-first-week c = search needs
-
-sub-start-of-first-week : tie.Need-sub-start-of-first-week
-sub-start-of-first-week c = search needs
-
-start-of-requires : tie.Need-start-of-requires
-start-of-requires c κs = search needs
-
 add-start-of-first-week-2 : tie.Need-add-start-of-first-week-2
 add-start-of-first-week-2 c = omega (arith, c .start-of .ensures, start-to (c .before .args .week-start))
-
-add-result : tie.Need-add-result
-add-result c = search needs
-
-sub-result : tie.Need-sub-result
-sub-result c = search needs
-
-cast-result : tie.Need-cast-result
-cast-result c = search needs
 
 returns : tie.Need-returns
 returns c =
@@ -45,14 +24,5 @@ returns c =
 
 pub week-number-spec : {M : Type 1} → statement M
 week-number-spec =
-    tie.close
-    (tie.spec
-    sub-year-day
-    add-start-of-first-week
-    sub-start-of-first-week
-    start-of-requires
-    add-start-of-first-week-2
-    add-result
-    sub-result
-    cast-result
-    returns)
+    tie.close (tie.spec (λ c. search needs) (λ c. search needs) (λ c. search needs) (λ c κs. search needs)
+    add-start-of-first-week-2 (λ c. search needs) (λ c. search needs) (λ c. search needs) returns)

@@ -32,12 +32,6 @@ returns c = record { holds = tt }
 returns-2 : tie.Need-returns-2 Inv-loop μ-loop
 returns-2 c = record { holds = tt }
 
-mul-value : tie.Need-mul-value Inv-loop μ-loop
-mul-value c = omega arith
-
-add-value : tie.Need-add-value Inv-loop μ-loop
-add-value c = omega arith
-
 add-next : tie.Need-add-next Inv-loop μ-loop
 add-next c = omega (arith, c .before .before .before .before .has-digit .ensures (c .before .before .before .if1 .taken))
 
@@ -55,21 +49,5 @@ returns-4 c = record { holds = tt }
 
 pub read-digits-spec : {M : Type 1} → statement M
 read-digits-spec =
-    tie.close
-    (tie.spec
-    Inv-loop
-    μ-loop
-    loop-holds
-    has-digit-requires
-    shared-slice-read-digit
-    sub-digit
-    cast-digit
-    returns
-    returns-2
-    mul-value
-    add-value
-    add-next
-    loop-less
-    loop-again
-    returns-3
-    returns-4)
+    tie.close (tie.spec Inv-loop μ-loop loop-holds has-digit-requires shared-slice-read-digit sub-digit cast-digit
+    returns returns-2 (λ c. omega arith) (λ c. omega arith) add-next loop-less loop-again returns-3 returns-4)

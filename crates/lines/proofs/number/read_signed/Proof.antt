@@ -26,12 +26,6 @@ add-read-digits c = omega (arith, c .before .before .before .has-byte .ensures (
 read-digits-requires : tie.Need-read-digits-requires
 read-digits-requires c κs = tt
 
-enum-known-value : tie.Need-enum-known-value
-enum-known-value c = search needs
-
-enum-told : tie.Need-enum-told
-enum-told c = search needs
-
 returns-2 : tie.Need-returns-2
 returns-2 c = record { holds = tt }
 
@@ -44,26 +38,14 @@ returns-3 c = let w = told (c .before .before .before .read-digits .ensures) (c 
 add-read-digits-2 : tie.Need-add-read-digits-2
 add-read-digits-2 c = omega (arith, c .before .has-byte2 .ensures (not-false _ (c .if2 .left)))
 
-add-read-digits-3 : tie.Need-add-read-digits-3
-add-read-digits-3 c = search needs
-
 read-digits-requires-2 : tie.Need-read-digits-requires-2
 read-digits-requires-2 c κs = tt
-
-enum-known-value-2 : tie.Need-enum-known-value-2
-enum-known-value-2 c = search needs
-
-enum-told-2 : tie.Need-enum-told-2
-enum-told-2 c = search needs
 
 returns-4 : tie.Need-returns-4
 returns-4 c = record { holds = tt }
 
 returns-5 : tie.Need-returns-5
 returns-5 c = record { holds = tt }
-
-sub-t15 : tie.Need-sub-t15
-sub-t15 c = search needs
 
 cast-t16 : tie.Need-cast-t16
 cast-t16 c = omega (arith, told (c .before .before .before .before .read-digits2 .ensures) (c .before .before .value2 .given .1), c .before .before .before .before .before .before .before .before .before .before .pre)
@@ -76,27 +58,7 @@ returns-6 c = let w = told (c .before .before .before .before .read-digits2 .ens
 
 pub read-signed-spec : {M : Type 1} → statement M
 read-signed-spec =
-    tie.close
-    (tie.spec
-    has-byte-requires
-    returns
-    add-has-byte
-    has-byte-requires-2
-    add-read-digits
-    read-digits-requires
-    enum-known-value
-    enum-told
-    returns-2
-    cast-t13
-    returns-3
-    add-read-digits-2
-    add-read-digits-3
-    read-digits-requires-2
-    enum-known-value-2
-    enum-told-2
-    returns-4
-    returns-5
-    sub-t15
-    cast-t16
-    sub-t17
-    returns-6)
+    tie.close (tie.spec has-byte-requires returns add-has-byte has-byte-requires-2 add-read-digits read-digits-requires
+    (λ c. search needs) (λ c. search needs) returns-2 cast-t13 returns-3 add-read-digits-2 (λ c. search needs)
+    read-digits-requires-2 (λ c. search needs) (λ c. search needs) returns-4 returns-5 (λ c. search needs) cast-t16
+    sub-t17 returns-6)

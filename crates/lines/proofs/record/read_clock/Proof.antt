@@ -8,23 +8,11 @@ use Rattle.lines.proofs.record.read_clock.Tie as tie
 read-number-requires : tie.Need-read-number-requires
 read-number-requires c κs = tt
 
-enum-known-hour : tie.Need-enum-known-hour
-enum-known-hour c = search needs
-
-enum-told : tie.Need-enum-told
-enum-told c = search needs
-
 returns : tie.Need-returns
 returns c = record { holds = tt }
 
 read-number-requires-2 : tie.Need-read-number-requires-2
 read-number-requires-2 c κs = tt
-
-enum-known-minute : tie.Need-enum-known-minute
-enum-known-minute c = search needs
-
-enum-told-2 : tie.Need-enum-told-2
-enum-told-2 c = search needs
 
 returns-2 : tie.Need-returns-2
 returns-2 c = record { holds = tt }
@@ -32,23 +20,11 @@ returns-2 c = record { holds = tt }
 read-number-requires-3 : tie.Need-read-number-requires-3
 read-number-requires-3 c κs = tt
 
-enum-known-second : tie.Need-enum-known-second
-enum-known-second c = search needs
-
-enum-told-3 : tie.Need-enum-told-3
-enum-told-3 c = search needs
-
 returns-3 : tie.Need-returns-3
 returns-3 c = record { holds = tt }
 
 read-number-requires-4 : tie.Need-read-number-requires-4
 read-number-requires-4 c κs = tt
-
-enum-known-nanoseconds : tie.Need-enum-known-nanoseconds
-enum-known-nanoseconds c = search needs
-
-enum-told-4 : tie.Need-enum-told-4
-enum-told-4 c = search needs
 
 returns-4 : tie.Need-returns-4
 returns-4 c = record { holds = tt }
@@ -70,26 +46,7 @@ returns-5 c = record { holds = told (c .before .before .before .read-number4 .en
 
 pub read-clock-spec : {M : Type 1} → statement M
 read-clock-spec =
-    tie.close
-    (tie.spec
-    read-number-requires
-    enum-known-hour
-    enum-told
-    returns
-    read-number-requires-2
-    enum-known-minute
-    enum-told-2
-    returns-2
-    read-number-requires-3
-    enum-known-second
-    enum-told-3
-    returns-3
-    read-number-requires-4
-    enum-known-nanoseconds
-    enum-told-4
-    returns-4
-    cast-record
-    cast-record-2
-    cast-record-3
-    cast-record-4
-    returns-5)
+    tie.close (tie.spec read-number-requires (λ c. search needs) (λ c. search needs) returns read-number-requires-2
+    (λ c. search needs) (λ c. search needs) returns-2 read-number-requires-3 (λ c. search needs) (λ c. search needs)
+    returns-3 read-number-requires-4 (λ c. search needs) (λ c. search needs) returns-4 cast-record cast-record-2
+    cast-record-3 cast-record-4 returns-5)

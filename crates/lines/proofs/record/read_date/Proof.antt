@@ -6,38 +6,17 @@ use Rattle.lines.proofs.SignedLaws.{small}
 use Rattle.lines.proofs.record.read_date.Statement.{statement}
 use Rattle.lines.proofs.record.read_date.Tie as tie
 
-read-signed-requires : tie.Need-read-signed-requires
-read-signed-requires c κs = search needs
-
-enum-known-year : tie.Need-enum-known-year
-enum-known-year c = search needs
-
-enum-told : tie.Need-enum-told
-enum-told c = search needs
-
 returns : tie.Need-returns
 returns c = record { holds = tt }
 
 read-number-requires : tie.Need-read-number-requires
 read-number-requires c κs = tt
 
-enum-known-month : tie.Need-enum-known-month
-enum-known-month c = search needs
-
-enum-told-2 : tie.Need-enum-told-2
-enum-told-2 c = search needs
-
 returns-2 : tie.Need-returns-2
 returns-2 c = record { holds = tt }
 
 read-number-requires-2 : tie.Need-read-number-requires-2
 read-number-requires-2 c κs = tt
-
-enum-known-day : tie.Need-enum-known-day
-enum-known-day c = search needs
-
-enum-told-3 : tie.Need-enum-told-3
-enum-told-3 c = search needs
 
 returns-3 : tie.Need-returns-3
 returns-3 c = record { holds = tt }
@@ -56,21 +35,6 @@ returns-4 c = record { holds = told (c .before .before .before .read-number2 .en
 
 pub read-date-spec : {M : Type 1} → statement M
 read-date-spec =
-    tie.close
-    (tie.spec
-    read-signed-requires
-    enum-known-year
-    enum-told
-    returns
-    read-number-requires
-    enum-known-month
-    enum-told-2
-    returns-2
-    read-number-requires-2
-    enum-known-day
-    enum-told-3
-    returns-3
-    cast-record
-    cast-record-2
-    cast-record-3
-    returns-4)
+    tie.close (tie.spec (λ c κs. search needs) (λ c. search needs) (λ c. search needs) returns read-number-requires
+    (λ c. search needs) (λ c. search needs) returns-2 read-number-requires-2 (λ c. search needs) (λ c. search needs)
+    returns-3 cast-record cast-record-2 cast-record-3 returns-4)

@@ -8,23 +8,11 @@ use Rattle.lines.proofs.record.read_day.Tie as tie
 read-number-requires : tie.Need-read-number-requires
 read-number-requires c κs = tt
 
-enum-known-day-of-week : tie.Need-enum-known-day-of-week
-enum-known-day-of-week c = search needs
-
-enum-told : tie.Need-enum-told
-enum-told c = search needs
-
 returns : tie.Need-returns
 returns c = record { holds = tt }
 
 read-number-requires-2 : tie.Need-read-number-requires-2
 read-number-requires-2 c κs = tt
-
-enum-known-day-of-year : tie.Need-enum-known-day-of-year
-enum-known-day-of-year c = search needs
-
-enum-told-2 : tie.Need-enum-told-2
-enum-told-2 c = search needs
 
 returns-2 : tie.Need-returns-2
 returns-2 c = record { holds = tt }
@@ -40,16 +28,5 @@ returns-3 c = record { holds = told (c .before .before .before .read-number2 .en
 
 pub read-day-spec : {M : Type 1} → statement M
 read-day-spec =
-    tie.close
-    (tie.spec
-    read-number-requires
-    enum-known-day-of-week
-    enum-told
-    returns
-    read-number-requires-2
-    enum-known-day-of-year
-    enum-told-2
-    returns-2
-    cast-record
-    cast-record-2
-    returns-3)
+    tie.close (tie.spec read-number-requires (λ c. search needs) (λ c. search needs) returns read-number-requires-2
+    (λ c. search needs) (λ c. search needs) returns-2 cast-record cast-record-2 returns-3)

@@ -13,16 +13,10 @@ add-read-text c = omega (arith, c .before .has-byte .ensures (c .if1 .taken))
 read-text-requires : tie.Need-read-text-requires
 read-text-requires c κs = tt
 
-same-length : tie.Need-same-length
-same-length c = search needs
-
-returns : tie.Need-returns
-returns c = search needs
-
 returns-2 : tie.Need-returns-2
 returns-2 c = record { holds = tt }
 
 pub read-field-spec : {M : Type 1} → statement M
 read-field-spec =
-    tie.close
-    (tie.spec has-byte-requires add-read-text read-text-requires same-length returns returns-2)
+    tie.close (tie.spec has-byte-requires add-read-text read-text-requires (λ c. search needs) (λ c. search needs)
+    returns-2)

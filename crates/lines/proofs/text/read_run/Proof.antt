@@ -9,12 +9,6 @@ use Rattle.lines.proofs.text.read_run.Tie as tie
 read-letter-requires : tie.Need-read-letter-requires
 read-letter-requires c κs = tt
 
-enum-known-byte : tie.Need-enum-known-byte
-enum-known-byte c = search needs
-
-enum-told : tie.Need-enum-told
-enum-told c = search needs
-
 returns : tie.Need-returns
 returns c = record { holds = tt }
 
@@ -39,12 +33,6 @@ add-read-digits c = omega (arith, told (c .before .before .before .before .befor
 read-digits-requires : tie.Need-read-digits-requires
 read-digits-requires c κs = tt
 
-enum-known-times : tie.Need-enum-known-times
-enum-known-times c = search needs
-
-enum-told-2 : tie.Need-enum-told-2
-enum-told-2 c = search needs
-
 returns-4 : tie.Need-returns-4
 returns-4 c = record { holds = tt }
 
@@ -65,24 +53,6 @@ returns-7 c = let w = told (c .before .before .before .before .before .before .r
 
 pub read-run-spec : {M : Type 1} → statement M
 read-run-spec =
-    tie.close
-    (tie.spec
-    read-letter-requires
-    enum-known-byte
-    enum-told
-    returns
-    has-byte-requires
-    returns-2
-    add-has-byte
-    has-byte-requires-2
-    returns-3
-    add-read-digits
-    read-digits-requires
-    enum-known-times
-    enum-told-2
-    returns-4
-    returns-5
-    has-byte-requires-3
-    returns-6
-    add-t12
-    returns-7)
+    tie.close (tie.spec read-letter-requires (λ c. search needs) (λ c. search needs) returns has-byte-requires returns-2
+    add-has-byte has-byte-requires-2 returns-3 add-read-digits read-digits-requires (λ c. search needs)
+    (λ c. search needs) returns-4 returns-5 has-byte-requires-3 returns-6 add-t12 returns-7)

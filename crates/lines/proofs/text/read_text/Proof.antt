@@ -33,41 +33,14 @@ returns c = record { holds = (omega arith, omega (arith, c .before .has-byte2 .e
 loop-holds : tie.Need-loop-holds Inv-loop μ-loop
 loop-holds c = (refl, omega arith, omega arith, λ h. omega arith)
 
-shared-slice-read-if3 : tie.Need-shared-slice-read-if3 Inv-loop μ-loop
-shared-slice-read-if3 c = omega arith
-
 read-run-requires : tie.Need-read-run-requires Inv-loop μ-loop
 read-run-requires c κs = tt
-
-enum-known-byte : tie.Need-enum-known-byte Inv-loop μ-loop
-enum-known-byte c = search needs
-
-enum-told : tie.Need-enum-told Inv-loop μ-loop
-enum-told c = search needs
-
-same-length : tie.Need-same-length Inv-loop μ-loop
-same-length c = omega arith
 
 returns-2 : tie.Need-returns-2 Inv-loop μ-loop
 returns-2 c = record { holds = tt }
 
-sub-if4 : tie.Need-sub-if4 Inv-loop μ-loop
-sub-if4 c = omega arith
-
-same-length-2 : tie.Need-same-length-2 Inv-loop μ-loop
-same-length-2 c = omega arith
-
 returns-3 : tie.Need-returns-3 Inv-loop μ-loop
 returns-3 c = record { holds = tt }
-
-add-fill : tie.Need-add-fill Inv-loop μ-loop
-add-fill c = omega arith
-
-fill-requires : tie.Need-fill-requires Inv-loop μ-loop
-fill-requires c κs = omega arith
-
-add-count : tie.Need-add-count Inv-loop μ-loop
-add-count c = omega arith
 
 loop-less : tie.Need-loop-less Inv-loop μ-loop
 loop-less c = omega (arith, told (c .before .before .before .before .before .before .before .before .read-run .ensures) (c .before .before .before .before .before .before .byte .given .1))
@@ -75,45 +48,15 @@ loop-less c = omega (arith, told (c .before .before .before .before .before .bef
 loop-again : tie.Need-loop-again Inv-loop μ-loop
 loop-again c = let w = told (c .before .before .before .before .before .before .before .before .read-run .ensures) (c .before .before .before .before .before .before .byte .given .1) in (omega (arith, c .before .before .fill .kept .0), omega arith, omega arith, λ h. omega arith)
 
-same-length-3 : tie.Need-same-length-3 Inv-loop μ-loop
-same-length-3 c = omega arith
-
 returns-4 : tie.Need-returns-4 Inv-loop μ-loop
 returns-4 c = record { holds = (omega arith, c .before .before .loop .inv .3 (c .if5 .taken)) }
-
-same-length-4 : tie.Need-same-length-4 Inv-loop μ-loop
-same-length-4 c = omega arith
 
 returns-5 : tie.Need-returns-5 Inv-loop μ-loop
 returns-5 c = record { holds = tt }
 
 pub read-text-spec : {M : Type 1} → statement M
 read-text-spec =
-    tie.close
-    (tie.spec
-    Inv-loop
-    μ-loop
-    has-byte-requires
-    add-has-byte
-    has-byte-requires-2
-    add-t12
-    returns
-    loop-holds
-    shared-slice-read-if3
-    read-run-requires
-    enum-known-byte
-    enum-told
-    same-length
-    returns-2
-    sub-if4
-    same-length-2
-    returns-3
-    add-fill
-    fill-requires
-    add-count
-    loop-less
-    loop-again
-    same-length-3
-    returns-4
-    same-length-4
-    returns-5)
+    tie.close (tie.spec Inv-loop μ-loop has-byte-requires add-has-byte has-byte-requires-2 add-t12 returns loop-holds
+    (λ c. omega arith) read-run-requires (λ c. search needs) (λ c. search needs) (λ c. omega arith) returns-2
+    (λ c. omega arith) (λ c. omega arith) returns-3 (λ c. omega arith) (λ c κs. omega arith) (λ c. omega arith)
+    loop-less loop-again (λ c. omega arith) returns-4 (λ c. omega arith) returns-5)

@@ -7,15 +7,6 @@ use Rattle.names.proofs.CalendarLaws.{cut-length, day-part}
 use Rattle.names.proofs.calendar.day_length.Statement.{statement}
 use Rattle.names.proofs.calendar.day_length.Tie as tie
 
-add-day-start : tie.Need-add-day-start
-add-day-start c = search needs
-
-day-start-requires : tie.Need-day-start-requires
-day-start-requires c κs = search needs
-
-day-start-requires-2 : tie.Need-day-start-requires-2
-day-start-requires-2 c κs = search needs
-
 sub-result : tie.Need-sub-result
 sub-result c = day-part false (c .before .before .pre) refl (c .day-start2 .ensures) (c .before .day-start .ensures) .order
 
@@ -25,4 +16,4 @@ returns c = cut-length (day-part false (c .before .before .pre) refl (c .day-sta
 
 pub day-length-spec : {M : Type 1} → statement M
 day-length-spec =
-    tie.close (tie.spec add-day-start day-start-requires day-start-requires-2 sub-result returns)
+    tie.close (tie.spec (λ c. search needs) (λ c κs. search needs) (λ c κs. search needs) sub-result returns)

@@ -10,13 +10,8 @@ use Rattle.names.proofs.calendar.day_start.Tie as tie
 pub day-start-spec : {M : Type 1} → statement M
 unfolding dayNames startOf flatten
 day-start-spec =
-    tie.close
-    (tie.spec
-    (λ c. is (startOf dayNames) (c .match .keys1))
-    (λ c. is (startOf dayNames) (c .match .keys2))
-    (λ c. is (startOf dayNames) (c .match .keys3))
-    (λ c. is (startOf dayNames) (c .match .keys4))
-    (λ c. is (startOf dayNames) (c .match .keys5))
-    (λ c. is (startOf dayNames) (c .match .keys6))
+    tie.close (tie.spec (λ c. is (startOf dayNames) (c .match .keys1)) (λ c. is (startOf dayNames) (c .match .keys2))
+    (λ c. is (startOf dayNames) (c .match .keys3)) (λ c. is (startOf dayNames) (c .match .keys4))
+    (λ c. is (startOf dayNames) (c .match .keys5)) (λ c. is (startOf dayNames) (c .match .keys6))
     (λ c. is (startOf dayNames) (c .match .keys7))
     (λ c. is (startOf dayNames) (behind _ _ 0 7 (c .match .rest) zero-le (c .before .pre))))

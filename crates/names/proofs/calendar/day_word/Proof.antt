@@ -12,12 +12,6 @@ word day = packed (abbreviated (dayName day))
 pub day-word-spec : {M : Type 1} → statement M
 unfolding dayNames dayName packed
 day-word-spec =
-    tie.close
-    (tie.spec
-    (λ c. is word (c .match .keys1))
-    (λ c. is word (c .match .keys2))
-    (λ c. is word (c .match .keys3))
-    (λ c. is word (c .match .keys4))
-    (λ c. is word (c .match .keys5))
-    (λ c. is word (c .match .keys6))
-    (λ c. is word (behind _ _ 0 6 (c .match .rest) zero-le (c .before .pre))))
+    tie.close (tie.spec (λ c. is word (c .match .keys1)) (λ c. is word (c .match .keys2))
+    (λ c. is word (c .match .keys3)) (λ c. is word (c .match .keys4)) (λ c. is word (c .match .keys5))
+    (λ c. is word (c .match .keys6)) (λ c. is word (behind _ _ 0 6 (c .match .rest) zero-le (c .before .pre))))

@@ -7,15 +7,6 @@ use Rattle.names.proofs.CalendarLaws.{cut-length, month-part}
 use Rattle.names.proofs.calendar.month_length.Statement.{statement}
 use Rattle.names.proofs.calendar.month_length.Tie as tie
 
-add-month-start : tie.Need-add-month-start
-add-month-start c = search needs
-
-month-start-requires : tie.Need-month-start-requires
-month-start-requires c κs = search needs
-
-month-start-requires-2 : tie.Need-month-start-requires-2
-month-start-requires-2 c κs = search needs
-
 sub-result : tie.Need-sub-result
 sub-result c = month-part false (c .before .before .pre .0) (c .before .before .pre .1) refl (c .month-start2 .ensures) (c .before .month-start .ensures) .order
 
@@ -25,4 +16,4 @@ returns c = cut-length (month-part false (c .before .before .pre .0) (c .before 
 
 pub month-length-spec : {M : Type 1} → statement M
 month-length-spec =
-    tie.close (tie.spec add-month-start month-start-requires month-start-requires-2 sub-result returns)
+    tie.close (tie.spec (λ c. search needs) (λ c κs. search needs) (λ c κs. search needs) sub-result returns)

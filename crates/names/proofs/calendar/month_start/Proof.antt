@@ -13,18 +13,9 @@ start month = startOf monthNames (month - 1)
 pub month-start-spec : {M : Type 1} → statement M
 unfolding monthNames startOf flatten
 month-start-spec =
-    tie.close
-    (tie.spec
-    (λ c. is start (c .match .keys1))
-    (λ c. is start (c .match .keys2))
-    (λ c. is start (c .match .keys3))
-    (λ c. is start (c .match .keys4))
-    (λ c. is start (c .match .keys5))
-    (λ c. is start (c .match .keys6))
-    (λ c. is start (c .match .keys7))
-    (λ c. is start (c .match .keys8))
-    (λ c. is start (c .match .keys9))
-    (λ c. is start (c .match .keys10))
-    (λ c. is start (c .match .keys11))
+    tie.close (tie.spec (λ c. is start (c .match .keys1)) (λ c. is start (c .match .keys2))
+    (λ c. is start (c .match .keys3)) (λ c. is start (c .match .keys4)) (λ c. is start (c .match .keys5))
+    (λ c. is start (c .match .keys6)) (λ c. is start (c .match .keys7)) (λ c. is start (c .match .keys8))
+    (λ c. is start (c .match .keys9)) (λ c. is start (c .match .keys10)) (λ c. is start (c .match .keys11))
     (λ c. is start (c .match .keys12))
     (λ c. is start (behind _ _ 1 12 (c .match .rest) (c .before .pre .0) (c .before .pre .1))))

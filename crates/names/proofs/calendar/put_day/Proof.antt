@@ -13,63 +13,24 @@ use Rattle.names.proofs.calendar.put_day.Tie as tie
 name-part : (c : tie.After-day-start2) {table : List ℕ} → table ≡ inCase (caseBy (c .before .before .before .args .upper)) (flatten dayNames) → Cut table (c .before .day-start .result) (c .day-start2 .result) (inCase (caseBy (c .before .before .before .args .upper)) (dayName (c .before .before .before .args .day)))
 name-part c t = day-part (c .before .before .before .args .upper) (c .before .before .before .pre .1) t (c .before .day-start .ensures) (c .day-start2 .ensures)
 
-day-start-requires : tie.Need-day-start-requires
-day-start-requires c κs = search needs
-
-add-day-start : tie.Need-add-day-start
-add-day-start c = search needs
-
-day-start-requires-2 : tie.Need-day-start-requires-2
-day-start-requires-2 c κs = search needs
-
-days-upper-requires : tie.Need-days-upper-requires
-days-upper-requires c κs = search needs
-
-slice-aggregate-put-part : tie.Need-slice-aggregate-put-part
-slice-aggregate-put-part c = search needs
-
 put-part-requires : tie.Need-put-part-requires
 put-part-requires c κs =
     let k = name-part (c .before .before .before .before) (raised-table dayNames (c .before .before .before .if1 .taken) (c .before .before .days-upper .ensures)) in
     (c .before .before .before .before .before .before .before .pre .0, k .order, k .inside)
-
-days-requires : tie.Need-days-requires
-days-requires c κs = search needs
-
-slice-aggregate-put-part-2 : tie.Need-slice-aggregate-put-part-2
-slice-aggregate-put-part-2 c = search needs
 
 put-part-requires-2 : tie.Need-put-part-requires-2
 put-part-requires-2 c κs =
     let k = name-part (c .before .before .before .before) (plain-table dayNames (c .before .before .before .if1 .left) (c .before .before .days .ensures)) in
     (c .before .before .before .before .before .before .before .pre .0, k .order, k .inside)
 
-same-length : tie.Need-same-length
-same-length c = search needs
-
 returns : tie.Need-returns
 returns c = λ limit. said (name-part (c .before .before .before .before .before .before .before) (raised-table dayNames (c .before .before .before .before .before .before .if1 .taken) (c .before .before .before .before .before .days-upper .ensures)) .part) (c .before .before .put-part .ensures limit)
-
-same-length-2 : tie.Need-same-length-2
-same-length-2 c = search needs
 
 returns-2 : tie.Need-returns-2
 returns-2 c = λ limit. said (name-part (c .before .before .before .before .before .before .before) (plain-table dayNames (c .before .before .before .before .before .before .if1 .left) (c .before .before .before .before .before .days .ensures)) .part) (c .before .before .put-part2 .ensures limit)
 
 pub put-day-spec : {M : Type 1} → statement M
 put-day-spec =
-    tie.close
-    (tie.spec
-    day-start-requires
-    add-day-start
-    day-start-requires-2
-    days-upper-requires
-    slice-aggregate-put-part
-    put-part-requires
-    days-requires
-    slice-aggregate-put-part-2
-    put-part-requires-2
-    same-length
-    returns
-    same-length-2
-    returns-2)
+    tie.close (tie.spec (λ c κs. search needs) (λ c. search needs) (λ c κs. search needs) (λ c κs. search needs)
+    (λ c. search needs) put-part-requires (λ c κs. search needs) (λ c. search needs) put-part-requires-2
+    (λ c. search needs) returns (λ c. search needs) returns-2)

@@ -13,63 +13,24 @@ use Rattle.names.proofs.calendar.put_month.Tie as tie
 name-part : (c : tie.After-month-start2) {table : List ℕ} → table ≡ inCase (caseBy (c .before .before .before .args .upper)) (flatten monthNames) → Cut table (c .before .month-start .result) (c .month-start2 .result) (inCase (caseBy (c .before .before .before .args .upper)) (monthName (c .before .before .before .args .month)))
 name-part c t = month-part (c .before .before .before .args .upper) (c .before .before .before .pre .1) (c .before .before .before .pre .2) t (c .before .month-start .ensures) (c .month-start2 .ensures)
 
-month-start-requires : tie.Need-month-start-requires
-month-start-requires c κs = search needs
-
-add-month-start : tie.Need-add-month-start
-add-month-start c = search needs
-
-month-start-requires-2 : tie.Need-month-start-requires-2
-month-start-requires-2 c κs = search needs
-
-months-upper-requires : tie.Need-months-upper-requires
-months-upper-requires c κs = search needs
-
-slice-aggregate-put-part : tie.Need-slice-aggregate-put-part
-slice-aggregate-put-part c = search needs
-
 put-part-requires : tie.Need-put-part-requires
 put-part-requires c κs =
     let k = name-part (c .before .before .before .before) (raised-table monthNames (c .before .before .before .if1 .taken) (c .before .before .months-upper .ensures)) in
     (c .before .before .before .before .before .before .before .pre .0, k .order, k .inside)
-
-months-requires : tie.Need-months-requires
-months-requires c κs = search needs
-
-slice-aggregate-put-part-2 : tie.Need-slice-aggregate-put-part-2
-slice-aggregate-put-part-2 c = search needs
 
 put-part-requires-2 : tie.Need-put-part-requires-2
 put-part-requires-2 c κs =
     let k = name-part (c .before .before .before .before) (plain-table monthNames (c .before .before .before .if1 .left) (c .before .before .months .ensures)) in
     (c .before .before .before .before .before .before .before .pre .0, k .order, k .inside)
 
-same-length : tie.Need-same-length
-same-length c = search needs
-
 returns : tie.Need-returns
 returns c = λ limit. said (name-part (c .before .before .before .before .before .before .before) (raised-table monthNames (c .before .before .before .before .before .before .if1 .taken) (c .before .before .before .before .before .months-upper .ensures)) .part) (c .before .before .put-part .ensures limit)
-
-same-length-2 : tie.Need-same-length-2
-same-length-2 c = search needs
 
 returns-2 : tie.Need-returns-2
 returns-2 c = λ limit. said (name-part (c .before .before .before .before .before .before .before) (plain-table monthNames (c .before .before .before .before .before .before .if1 .left) (c .before .before .before .before .before .months .ensures)) .part) (c .before .before .put-part2 .ensures limit)
 
 pub put-month-spec : {M : Type 1} → statement M
 put-month-spec =
-    tie.close
-    (tie.spec
-    month-start-requires
-    add-month-start
-    month-start-requires-2
-    months-upper-requires
-    slice-aggregate-put-part
-    put-part-requires
-    months-requires
-    slice-aggregate-put-part-2
-    put-part-requires-2
-    same-length
-    returns
-    same-length-2
-    returns-2)
+    tie.close (tie.spec (λ c κs. search needs) (λ c. search needs) (λ c κs. search needs) (λ c κs. search needs)
+    (λ c. search needs) put-part-requires (λ c κs. search needs) (λ c. search needs) put-part-requires-2
+    (λ c. search needs) returns (λ c. search needs) returns-2)

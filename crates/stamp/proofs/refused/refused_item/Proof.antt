@@ -17,17 +17,11 @@ abbrev μ-loop : tie.MeasureT-loop
 loop-holds : tie.Need-loop-holds Inv-loop μ-loop
 loop-holds c = refl
 
-item-end-requires : tie.Need-item-end-requires Inv-loop μ-loop
-item-end-requires c κs = omega arith
-
 slice-aggregate-stamp : tie.Need-slice-aggregate-stamp Inv-loop μ-loop
 slice-aggregate-stamp c = sym (length-take-le _ _ (c .before .item-end .ensures .1))
 
 stamp-requires : tie.Need-stamp-requires Inv-loop μ-loop
 stamp-requires c κs = tt
-
-enum-told : tie.Need-enum-told Inv-loop μ-loop
-enum-told c = search needs
 
 same-length : tie.Need-same-length Inv-loop μ-loop
 same-length c = omega (arith, c .before .before .before .before .stamp .kept .1 .0)
@@ -35,36 +29,14 @@ same-length c = omega (arith, c .before .before .before .before .stamp .kept .1 
 returns : tie.Need-returns Inv-loop μ-loop
 returns c = c .before .before .before .before .before .before .before .item-end .ensures
 
-enum-told-2 : tie.Need-enum-told-2 Inv-loop μ-loop
-enum-told-2 c = search needs
-
-loop-less : tie.Need-loop-less Inv-loop μ-loop
-loop-less c = omega arith
-
 loop-again : tie.Need-loop-again Inv-loop μ-loop
 loop-again c = omega (arith, c .before .before .before .before .stamp .kept .1 .0)
-
-same-length-2 : tie.Need-same-length-2 Inv-loop μ-loop
-same-length-2 c = omega arith
 
 returns-2 : tie.Need-returns-2 Inv-loop μ-loop
 returns-2 c = tt
 
 pub refused-item-spec : {M : Type 1} → statement M
 refused-item-spec =
-    tie.close
-    (tie.spec
-    Inv-loop
-    μ-loop
-    loop-holds
-    item-end-requires
-    slice-aggregate-stamp
-    stamp-requires
-    enum-told
-    same-length
-    returns
-    enum-told-2
-    loop-less
-    loop-again
-    same-length-2
+    tie.close (tie.spec Inv-loop μ-loop loop-holds (λ c κs. omega arith) slice-aggregate-stamp stamp-requires
+    (λ c. search needs) same-length returns (λ c. search needs) (λ c. omega arith) loop-again (λ c. omega arith)
     returns-2)

@@ -10,41 +10,16 @@ Inv-loop ground from end i₀ i = from ≤ i
 abbrev μ-loop : tie.MeasureT-loop
 μ-loop ground from end i₀ i = end - i
 
-loop-holds : tie.Need-loop-holds Inv-loop μ-loop
-loop-holds c = omega arith
-
-shared-slice-read-if1 : tie.Need-shared-slice-read-if1 Inv-loop μ-loop
-shared-slice-read-if1 c = omega arith
-
 pattern-requires : tie.Need-pattern-requires Inv-loop μ-loop
 pattern-requires c κs = tt
 
 returns : tie.Need-returns Inv-loop μ-loop
 returns c = record { holds = (omega arith, omega arith) }
 
-add-i : tie.Need-add-i Inv-loop μ-loop
-add-i c = omega arith
-
-loop-less : tie.Need-loop-less Inv-loop μ-loop
-loop-less c = omega arith
-
-loop-again : tie.Need-loop-again Inv-loop μ-loop
-loop-again c = omega arith
-
 returns-2 : tie.Need-returns-2 Inv-loop μ-loop
 returns-2 c = record { holds = tt }
 
 pub changed-spec : {M : Type 1} → statement M
 changed-spec =
-    tie.close
-    (tie.spec
-    Inv-loop
-    μ-loop
-    loop-holds
-    shared-slice-read-if1
-    pattern-requires
-    returns
-    add-i
-    loop-less
-    loop-again
-    returns-2)
+    tie.close (tie.spec Inv-loop μ-loop (λ c. omega arith) (λ c. omega arith) pattern-requires returns
+    (λ c. omega arith) (λ c. omega arith) (λ c. omega arith) returns-2)

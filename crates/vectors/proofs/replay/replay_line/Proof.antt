@@ -7,30 +7,6 @@ use Rattle.lines.proofs.Laws.{told}
 use Rattle.vectors.proofs.replay.replay_line.Statement.{statement}
 use Rattle.vectors.proofs.replay.replay_line.Tie as tie
 
-read-line-requires : tie.Need-read-line-requires
-read-line-requires c κs = search needs
-
-enum-known-case : tie.Need-enum-known-case
-enum-known-case c = search needs
-
-enum-told : tie.Need-enum-told
-enum-told c = search needs
-
-same-length : tie.Need-same-length
-same-length c = search needs
-
-same-length-2 : tie.Need-same-length-2
-same-length-2 c = search needs
-
-same-length-3 : tie.Need-same-length-3
-same-length-3 c = search needs
-
-returns : tie.Need-returns
-returns c = search needs
-
-mul-whole : tie.Need-mul-whole
-mul-whole c = search needs
-
 add-whole : tie.Need-add-whole
 add-whole c = omega (arith, told (c .before .before .before .before .before .before .before .before .before .before .before .read-line .ensures) (c .before .before .before .case .given .1))
 
@@ -61,45 +37,11 @@ slice-aggregate-replay-case-4 c = sym (length-take-le _ _ (slice-relend-prefix-r
 replay-case-requires : tie.Need-replay-case-requires
 replay-case-requires c κs = omega (arith, told (c .before .before .before .before .before .before .before .before .before .before .before .before .before .before .before .read-line .ensures) (c .before .before .before .before .before .before .before .case .given .1), slice-aggregate-replay-case-3 (c .before), slice-aggregate-replay-case-4 c)
 
-same-length-4 : tie.Need-same-length-4
-same-length-4 c = search needs
-
-same-length-5 : tie.Need-same-length-5
-same-length-5 c = search needs
-
-same-length-6 : tie.Need-same-length-6
-same-length-6 c = search needs
-
-same-length-7 : tie.Need-same-length-7
-same-length-7 c = search needs
-
-returns-2 : tie.Need-returns-2
-returns-2 c = search needs
-
 pub replay-line-spec : {M : Type 1} → statement M
 replay-line-spec =
-    tie.close
-    (tie.spec
-    read-line-requires
-    enum-known-case
-    enum-told
-    same-length
-    same-length-2
-    same-length-3
-    returns
-    mul-whole
-    add-whole
-    slice-reshare-prefix-replay-case
-    slice-aggregate-replay-case
-    slice-reshare-prefix-replay-case-2
-    slice-aggregate-replay-case-2
-    slice-reshare-prefix-replay-case-3
-    slice-aggregate-replay-case-3
-    slice-relend-prefix-replay-case
-    slice-aggregate-replay-case-4
-    replay-case-requires
-    same-length-4
-    same-length-5
-    same-length-6
-    same-length-7
-    returns-2)
+    tie.close (tie.spec (λ c κs. search needs) (λ c. search needs) (λ c. search needs) (λ c. search needs)
+    (λ c. search needs) (λ c. search needs) (λ c. search needs) (λ c. search needs) add-whole
+    slice-reshare-prefix-replay-case slice-aggregate-replay-case slice-reshare-prefix-replay-case-2
+    slice-aggregate-replay-case-2 slice-reshare-prefix-replay-case-3 slice-aggregate-replay-case-3
+    slice-relend-prefix-replay-case slice-aggregate-replay-case-4 replay-case-requires (λ c. search needs)
+    (λ c. search needs) (λ c. search needs) (λ c. search needs) (λ c. search needs))

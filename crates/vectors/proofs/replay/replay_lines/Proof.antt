@@ -18,18 +18,6 @@ abbrev μ-loop : tie.MeasureT-loop
 loop-holds : tie.Need-loop-holds Inv-loop μ-loop
 loop-holds c = (omega arith, omega arith, refl, refl, refl, refl)
 
-line-end-requires : tie.Need-line-end-requires Inv-loop μ-loop
-line-end-requires c κs = omega arith
-
-sub-replay-line : tie.Need-sub-replay-line Inv-loop μ-loop
-sub-replay-line c = omega arith
-
-part-replay-line-start : tie.Need-part-replay-line-start Inv-loop μ-loop
-part-replay-line-start c = omega arith
-
-part-replay-line-end : tie.Need-part-replay-line-end Inv-loop μ-loop
-part-replay-line-end c = omega arith
-
 replay-line-requires : tie.Need-replay-line-requires Inv-loop μ-loop
 replay-line-requires c κs = omega (arith, c .before .before .before .before .before .before .before .before .before .before .before .before .before .pre)
 
@@ -38,9 +26,6 @@ add-at c = omega (arith, c .before .before .before .before .before .before .befo
 
 add-answers : tie.Need-add-answers Inv-loop μ-loop
 add-answers c = omega (arith, c .before .before .before .before .before .before .before .before .before .before .before .before .before .before .before)
-
-enum-known-compared : tie.Need-enum-known-compared Inv-loop μ-loop
-enum-known-compared c = search needs
 
 report-requires : tie.Need-report-requires Inv-loop μ-loop
 report-requires c κs = tt
@@ -54,9 +39,6 @@ loop-less c = omega (arith, c .before .before .before .before .before .before .b
 loop-again : tie.Need-loop-again Inv-loop μ-loop
 loop-again c = (omega (arith, c .before .before .before .before .before .before .before .before .before .before .before .before), omega (arith, c .before .before .before .before .before .before .before .before .before .before .before .before), omega (arith, c .before .before .before .before .before .before .before .before .before .before .before .before .replay-line .kept .1 .0), omega (arith, c .before .before .before .before .before .before .before .before .before .before .before .before .replay-line .kept .1 .1 .0), omega (arith, c .before .before .before .before .before .before .before .before .before .before .before .before .replay-line .kept .1 .1 .1 .0), omega (arith, c .before .before .before .before .before .before .before .before .before .before .before .before .replay-line .kept .1 .1 .1 .1 .0))
 
-enum-told : tie.Need-enum-told Inv-loop μ-loop
-enum-told c = search needs
-
 loop-less-2 : tie.Need-loop-less-2 Inv-loop μ-loop
 loop-less-2 c = omega (arith, c .before .before .before .before .before .before .before .before .before .before .before .before .before .before .before .before)
 
@@ -66,46 +48,12 @@ loop-again-2 c = (omega (arith, c .before .before .before .before .before .befor
 report-counts-requires : tie.Need-report-counts-requires Inv-loop μ-loop
 report-counts-requires c κs = tt
 
-same-length : tie.Need-same-length Inv-loop μ-loop
-same-length c = omega arith
-
-same-length-2 : tie.Need-same-length-2 Inv-loop μ-loop
-same-length-2 c = omega arith
-
-same-length-3 : tie.Need-same-length-3 Inv-loop μ-loop
-same-length-3 c = omega arith
-
-same-length-4 : tie.Need-same-length-4 Inv-loop μ-loop
-same-length-4 c = omega arith
-
 returns : tie.Need-returns Inv-loop μ-loop
 returns c = tt
 
 pub replay-lines-spec : {M : Type 1} → statement M
 replay-lines-spec =
-    tie.close
-    (tie.spec
-    Inv-loop
-    μ-loop
-    loop-holds
-    line-end-requires
-    sub-replay-line
-    part-replay-line-start
-    part-replay-line-end
-    replay-line-requires
-    add-at
-    add-answers
-    enum-known-compared
-    report-requires
-    add-differ
-    loop-less
-    loop-again
-    enum-told
-    loop-less-2
-    loop-again-2
-    report-counts-requires
-    same-length
-    same-length-2
-    same-length-3
-    same-length-4
-    returns)
+    tie.close (tie.spec Inv-loop μ-loop loop-holds (λ c κs. omega arith) (λ c. omega arith) (λ c. omega arith)
+    (λ c. omega arith) replay-line-requires add-at add-answers (λ c. search needs) report-requires add-differ loop-less
+    loop-again (λ c. search needs) loop-less-2 loop-again-2 report-counts-requires (λ c. omega arith) (λ c. omega arith)
+    (λ c. omega arith) (λ c. omega arith) returns)

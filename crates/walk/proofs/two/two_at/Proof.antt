@@ -4,15 +4,6 @@ use borrow.Author.Needs.{needs}
 use Rattle.walk.proofs.two.two_at.Statement.{statement}
 use Rattle.walk.proofs.two.two_at.Tie as tie
 
-add-next : tie.Need-add-next
-add-next c = search needs
-
-shared-slice-read-two-of : tie.Need-shared-slice-read-two-of
-shared-slice-read-two-of c = search needs
-
-two-of-requires : tie.Need-two-of-requires
-two-of-requires c κs = search needs
-
 returns : tie.Need-returns
 returns c small = (c .before .before .if1 .taken, c .two-of .ensures small)
 
@@ -21,4 +12,4 @@ returns-2 c small = absurd (omega arith)
 
 pub two-at-spec : {M : Type 1} → statement M
 two-at-spec =
-    tie.close (tie.spec add-next shared-slice-read-two-of two-of-requires returns returns-2)
+    tie.close (tie.spec (λ c. search needs) (λ c. search needs) (λ c κs. search needs) returns returns-2)
