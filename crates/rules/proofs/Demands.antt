@@ -12,24 +12,29 @@ use Rattle.rules.specs.declared.Record.{Record}
 use Rattle.rules.specs.declared.IsoWeek.{IsoWeek}
 use Rattle.rules.specs.declared.Number.the-variants.{YearIso8601, YearIso8601Rem100, WeekNumberIso8601}
 use Rattle.rules.specs.Record.{longestZone, longestBuffer}
+use Rattle.rules.specs.Refusal.{ByEvent}
 use Rattle.rules.specs.Event.{Event, textOf, Count, at, no, tally, done, refused, outcomeOf, run, reported, bufferAfter}
 use Rattle.rules.specs.Decimal.{floorMod}
 use Rattle.rules.specs.Week.{daysIn, thursdayRule}
 use Rattle.rules.specs.Writing.{valueOf}
 use Rattle.rules.specs.Format.{items, read, ending, events, limitOf, formatEvents, formatted}
 use Rattle.rules.proofs.WeekLaws.{iso-exists}
-use Rattle.rules.proofs.FormatLaws.{runs, Among, Numbered, numbered-items, CountOk, tally-ok}
+use Rattle.rules.proofs.FormatLaws.{runs, Numbered, numbered-items, CountOk, tally-ok}
 use Rattle.rules.proofs.EventLaws.{length-text, run-done}
 
 -- ## A text or a refusal of the table
 
+-- 5, or one that an event gives
 abbrev pub InTable : ℕ → Type 0
-InTable = Among 5
+InTable number = ByEvent number ⊎ (number ≡ 5)
 
-numbered-format : (format zone : List ℕ) (r : Record) (room : ℕ) → Numbered 5 (formatEvents format zone r room)
+by-event : (number : ℕ) → ByEvent number → InTable number
+by-event number g = inl g
+
+numbered-format : (format zone : List ℕ) (r : Record) (room : ℕ) → Numbered InTable (formatEvents format zone r room)
 unfolding formatEvents Numbered
 numbered-format format zone r room =
-    ((lit≤ tt, lit≤ tt), ((lit≤ tt, lit≤ tt), ((lit≤ tt, lit≤ tt), numbered-items 5 (lit≤ tt) r zone (items format))))
+    (λ e. inr refl, (λ e. inr refl, (λ e. inr refl, numbered-items InTable by-event r zone (items format))))
 
 -- "Any format, record, zone name and buffer gets a length or one refusal from the table"
 pub text-or-refusal : (format zone : List ℕ) (r : Record) (room : ℕ) →
@@ -37,7 +42,7 @@ pub text-or-refusal : (format zone : List ℕ) (r : Record) (room : ℕ) →
     ⊎ ((number : ℕ) × (InTable number × (formatted format zone r room ≡ refused number)))
 unfolding formatted run
 text-or-refusal format zone r room =
-    go (tally limit room es (at 0)) (tally-ok 5 (lit≤ tt) limit room es (at 0) (numbered-format format zone r room) tt)
+    go (tally limit room es (at 0)) (tally-ok InTable by-event limit room es (at 0) (numbered-format format zone r room) tt)
   where
     limit : ℕ
     limit = limitOf (length format)
@@ -45,7 +50,7 @@ text-or-refusal format zone r room =
     es : List Event
     es = formatEvents format zone r room
 
-    go : (c : Count) → CountOk 5 (lit≤ tt) c → (outcomeOf c (textOf es) ≡ done (textOf es)) ⊎ ((number : ℕ) × (InTable number × (outcomeOf c (textOf es) ≡ refused number)))
+    go : (c : Count) → CountOk InTable c → (outcomeOf c (textOf es) ≡ done (textOf es)) ⊎ ((number : ℕ) × (InTable number × (outcomeOf c (textOf es) ≡ refused number)))
     go (at n) h = inl refl
     go (no number n) h = inr (number, (h, refl))
 

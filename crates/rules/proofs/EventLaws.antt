@@ -6,7 +6,7 @@ use Prim.Native.Nat.{ℕ, _+_, _≤_, _<_}
 use native.Mathlib.Omega.{arith}
 use lib.Dec.{T, leb, leb→le, nleb→lt}
 use lib.ListN.{length, length-append, length-replicate}
-use Rattle.rules.specs.Event.{Write, put, pad, Event, write, check, bytesOf, sizeOf, textOf, lengthOf, Count, at, no, roomFor, writeAt, one, tally, done, outcomeOf, run, Holds}
+use Rattle.rules.specs.Event.{Write, put, pad, Event, write, check, bytesOf, writeLength, textOf, lengthOf, Count, at, no, roomFor, writeAt, one, tally, done, outcomeOf, run, Holds}
 
 -- by the two outcomes of a test
 pub splitOn : {A : Type 0} (P : A → Type 0) (b : Bool) {x y : A} → (T b → P x) → (T (not b) → P y) → P (cond b x y)
@@ -15,15 +15,15 @@ splitOn P false f g = g tt
 
 -- ## Length
 
-pub size-bytes : (w : Write) → length (bytesOf w) ≡ sizeOf w
-unfolding bytesOf sizeOf
-size-bytes (put bytes) = refl
-size-bytes (pad byte count) = length-replicate count byte
+pub length-bytes : (w : Write) → length (bytesOf w) ≡ writeLength w
+unfolding bytesOf writeLength
+length-bytes (put bytes) = refl
+length-bytes (pad byte count) = length-replicate count byte
 
 pub length-text : (es : List Event) → length (textOf es) ≡ lengthOf es
 unfolding textOf lengthOf
 length-text [] = refl
-length-text (write w ∷ es) = rw (length-append, size-bytes, length-text es)
+length-text (write w ∷ es) = rw (length-append, length-bytes, length-text es)
 length-text (check ok number ∷ es) = length-text es
 
 pub length-join : (xs ys : List Event) → lengthOf (xs ++ ys) ≡ lengthOf xs + lengthOf ys
@@ -76,15 +76,15 @@ module _ (limit room : ℕ) where
   -- ## A write that fits, and one that fails
 
   -- whatever follows from a write that passes and from each of its two refusals follows from the write
-  pub write-cases : (P : Count → Type 0) (w : Write) (n : ℕ) → (n + sizeOf w ≤ room → P (at (n + sizeOf w))) → (room < n + sizeOf w → P (no 4 room)) → (limit < n + sizeOf w → P (no 3 n)) → P (writeAt limit room w n)
-  unfolding writeAt roomFor sizeOf
+  pub write-cases : (P : Count → Type 0) (w : Write) (n : ℕ) → (n + writeLength w ≤ room → P (at (n + writeLength w))) → (room < n + writeLength w → P (no 4 room)) → (limit < n + writeLength w → P (no 3 n)) → P (writeAt limit room w n)
+  unfolding writeAt roomFor writeLength
   write-cases P (put bytes) n f g h = splitOn P (leb (n + length bytes) room) (λ t. f (leb→le _ _ t)) (λ t. g (nleb→lt _ _ t))
   write-cases P (pad byte count) n f g h =
       splitOn P (leb (n + count) limit) (λ t. splitOn P (leb (n + count) room) (λ t′. f (leb→le _ _ t′)) (λ t′. g (nleb→lt _ _ t′))) (λ t. h (nleb→lt _ _ t))
 
-  pub write-fits : (w : Write) (n : ℕ) → n + sizeOf w ≤ room → n + sizeOf w ≤ limit → writeAt limit room w n ≡ at (n + sizeOf w)
+  pub write-fits : (w : Write) (n : ℕ) → n + writeLength w ≤ room → n + writeLength w ≤ limit → writeAt limit room w n ≡ at (n + writeLength w)
   write-fits w n r l =
-      write-cases (λ c. c ≡ at (n + sizeOf w)) w n (λ fit. refl) (λ short. absurd (omega arith)) (λ far. absurd (omega arith))
+      write-cases (λ c. c ≡ at (n + writeLength w)) w n (λ fit. refl) (λ short. absurd (omega arith)) (λ far. absurd (omega arith))
 
   -- ## A list that fits, and a list that came to its end
 
@@ -92,7 +92,7 @@ module _ (limit room : ℕ) where
   unfolding tally one lengthOf Holds
   tally-fits [] n h r l = ap at (omega arith)
   tally-fits (write w ∷ es) n h r l =
-      rw (write-fits w n (omega arith) (omega arith)) (tally-fits es (n + sizeOf w) h (omega arith) (omega arith) ∙ ap at (omega arith))
+      rw (write-fits w n (omega arith) (omega arith)) (tally-fits es (n + writeLength w) h (omega arith) (omega arith) ∙ ap at (omega arith))
   tally-fits (check true number ∷ es) n h r l = tally-fits es n (h .1) r l
   tally-fits (check false number ∷ es) n h r l = let z : _≡_ {A = ℕ} 0 1 = cc (h .0) in absurd (omega arith)
 
@@ -103,8 +103,8 @@ module _ (limit room : ℕ) where
   unfolding tally one lengthOf Holds
   tally-done [] n m e = (tt, let q : n ≡ m = cc in omega arith)
   tally-done (write w ∷ es) n m e =
-      write-cases (λ c. tally limit room es c ≡ at m → Holds es × (m ≡ n + (sizeOf w + lengthOf es))) w n
-      (λ fit q. let ih = tally-done es (n + sizeOf w) m q in (ih .0, omega arith))
+      write-cases (λ c. tally limit room es c ≡ at m → Holds es × (m ≡ n + (writeLength w + lengthOf es))) w n
+      (λ fit q. let ih = tally-done es (n + writeLength w) m q in (ih .0, omega arith))
       (λ short q. absurd (refused-at es 4 room m q)) (λ far q. absurd (refused-at es 3 n m q)) e
   tally-done (check true number ∷ es) n m e = let ih = tally-done es n m e in ((refl, ih .0), ih .1)
   tally-done (check false number ∷ es) n m e = absurd (refused-at es number n m e)
@@ -115,7 +115,7 @@ module _ (limit room : ℕ) where
   tally-room [] n m h e = let q : n ≡ m = cc in omega arith
   tally-room (write w ∷ es) n m h e =
       write-cases (λ c. tally limit room es c ≡ at m → m ≤ room) w n
-      (λ fit q. tally-room es (n + sizeOf w) m fit q)
+      (λ fit q. tally-room es (n + writeLength w) m fit q)
       (λ short q. absurd (refused-at es 4 room m q)) (λ far q. absurd (refused-at es 3 n m q)) e
   tally-room (check true number ∷ es) n m h e = tally-room es n m h e
   tally-room (check false number ∷ es) n m h e = absurd (refused-at es number n m e)

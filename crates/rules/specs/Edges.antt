@@ -5,6 +5,7 @@ use Prim.Native.Nat.{ℕ}
 use lib.IntN.{ℤ, pos, negsuc}
 use Rattle.rules.specs.declared.Record.{Record}
 use Rattle.rules.specs.Ascii.{ascii}
+use Rattle.rules.specs.Record.{recordOf}
 use Rattle.rules.specs.Event.{Outcome, done, refused}
 
 -- a format, a record, and the outcome with an empty zone name in a buffer of 64 bytes
@@ -15,21 +16,7 @@ pub record Edge : Type 0 where
 
 -- the fields that the table's formats read; the others are 0
 abbrev at : ℤ → ℕ → ℕ → ℕ → ℕ → Bool → ℤ → Record
-at year month day weekday dayOfYear utc offset =
-    record {
-      year = year;
-      month = month;
-      day = day;
-      hour = 0;
-      minute = 0;
-      second = 0;
-      nanoseconds = 0;
-      «day_of_week» = weekday;
-      «day_of_year» = dayOfYear;
-      «to_int» = pos 0;
-      «is_utc» = utc;
-      «utc_offset» = offset;
-    }
+at year month day weekday dayOfYear utc offset = recordOf year month day 0 0 0 0 weekday dayOfYear (pos 0) utc offset
 
 abbrev minusOne : Record
 minusOne = at (negsuc 0) 1 5 0 1 false (pos 0)

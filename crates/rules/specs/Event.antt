@@ -3,7 +3,7 @@ use mathlib.Core.Path.{_≡_}
 use mathlib.Core.Bool.{Bool, true, false, cond}
 use mathlib.Core.List.{List, [], _∷_, _++_}
 use Prim.Native.Nat.{ℕ, _+_}
-use lib.Dec.{leb}
+use lib.Dec.{leb, eqb}
 use lib.ListN.{length, replicate, drop}
 use Rattle.rules.specs.Refusal.{Report}
 
@@ -17,14 +17,18 @@ pub data Event : Type 0 where
   write : Write → Event
   check : Bool → ℕ → Event
 
+-- a check by its verdict: 0 passes, and any other number is the refusal's
+abbrev pub judged : ℕ → Event
+judged verdict = check (eqb verdict 0) verdict
+
 -- the bytes of a write, and how many they are
 unfoldable pub bytesOf : Write → List ℕ
 bytesOf (put bytes) = bytes
 bytesOf (pad byte count) = replicate count byte
 
-unfoldable pub sizeOf : Write → ℕ
-sizeOf (put bytes) = length bytes
-sizeOf (pad byte count) = count
+unfoldable pub writeLength : Write → ℕ
+writeLength (put bytes) = length bytes
+writeLength (pad byte count) = count
 
 -- the text of the events, and its length
 unfoldable pub textOf : List Event → List ℕ
@@ -34,13 +38,18 @@ textOf (check ok number ∷ es) = textOf es
 
 unfoldable pub lengthOf : List Event → ℕ
 lengthOf [] = 0
-lengthOf (write w ∷ es) = sizeOf w + lengthOf es
+lengthOf (write w ∷ es) = writeLength w + lengthOf es
 lengthOf (check ok number ∷ es) = lengthOf es
 
 -- at n: n bytes are written so far; no number n: refused, and the text came as far as n bytes
 pub data Count : Type 0 where
   at : ℕ → Count
   no : ℕ → ℕ → Count
+
+-- how far the text came
+unfoldable pub reachOf : Count → ℕ
+reachOf (at n) = n
+reachOf (no number n) = n
 
 -- "the next byte has no room" is 4: the text then comes as far as the room
 unfoldable pub roomFor : ℕ → ℕ → Count

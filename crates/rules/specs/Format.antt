@@ -101,12 +101,13 @@ isCut (echo text) = false
 isCut (directive p) = false
 isCut cut = true
 
-unfoldable pub whole : List Item → Bool
-whole [] = true
-whole (i ∷ is) = cond (isCut i) false (whole is)
+-- what makes a format no valid one, by its refusal's number: 2, or 0 where nothing does
+unfoldable pub fault : List Item → ℕ
+fault [] = 0
+fault (i ∷ is) = cond (isCut i) 2 (fault is)
 
 unfoldable pub valid : List ℕ → Bool
-valid format = leb (length format) longestFormat && whole (items format)
+valid format = leb (length format) longestFormat && eqb (fault (items format)) 0
 
 -- "The size limit is format length times 524,288"
 abbrev pub limitOf : ℕ → ℕ

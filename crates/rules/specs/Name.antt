@@ -19,16 +19,6 @@ monthNames =
     ascii "January" ∷ ascii "February" ∷ ascii "March" ∷ ascii "April" ∷ ascii "May" ∷ ascii "June" ∷ ascii "July" ∷ ascii "August"
     ∷ ascii "September" ∷ ascii "October" ∷ ascii "November" ∷ ascii "December" ∷ []
 
--- the original's twins of these tables, in upper case
-unfoldable pub dayNamesUpper : List (List ℕ)
-dayNamesUpper =
-    ascii "SUNDAY" ∷ ascii "MONDAY" ∷ ascii "TUESDAY" ∷ ascii "WEDNESDAY" ∷ ascii "THURSDAY" ∷ ascii "FRIDAY" ∷ ascii "SATURDAY" ∷ []
-
-unfoldable pub monthNamesUpper : List (List ℕ)
-monthNamesUpper =
-    ascii "JANUARY" ∷ ascii "FEBRUARY" ∷ ascii "MARCH" ∷ ascii "APRIL" ∷ ascii "MAY" ∷ ascii "JUNE" ∷ ascii "JULY" ∷ ascii "AUGUST"
-    ∷ ascii "SEPTEMBER" ∷ ascii "OCTOBER" ∷ ascii "NOVEMBER" ∷ ascii "DECEMBER" ∷ []
-
 -- Sunday is day 0, January month 1
 unfoldable pub dayName : ℕ → List ℕ
 dayName day = getD dayNames day []

@@ -1,6 +1,6 @@
 -- Reading a directive (01, "Reading a directive"): what one byte after the percent sign does, in 01's five steps.
 use mathlib.Core.Bool.{Bool, true, false, cond, not, _&&_}
-use mathlib.Core.List.{List, [], _∷_}
+use mathlib.Core.List.{List, [], _∷_, map}
 use Prim.Native.Nat.{ℕ, _+_, _-_, _*_, min}
 use lib.Dec.{ltb, leb, eqb}
 use Rattle.rules.specs.declared.Flag.{Flag}
@@ -142,6 +142,15 @@ possibleSpecs =
     ∷ byte "y" is number YearRem100
     ∷ byte "z" is offset TimeZoneOffsetHourMinute
     ∷ []
+
+abbrev pub letters : List Row → List ℕ
+letters rows = map (λ (r : Row). r .letter) rows
+
+-- each number is above the one before it: so none stands twice
+abbrev pub rising : List ℕ → Bool
+rising [] = true
+rising (x ∷ []) = true
+rising (x ∷ (y ∷ ys)) = ltb x y && rising (y ∷ ys)
 
 unfoldable pub lookUp : ℕ → List Row → Entry
 lookUp b [] = Missing

@@ -3,6 +3,7 @@ use mathlib.Core.Bool.{Bool, true, false, _&&_}
 use mathlib.Core.List.{List, [], _∷_}
 use Prim.Native.Nat.{ℕ}
 use lib.Dec.{T, ltb, leb}
+use lib.IntN.{ℤ}
 use Rattle.rules.specs.declared.Record.{Record}
 
 -- "Longest inputs: format 4,096 bytes, zone 64, buffer 65,536."
@@ -15,14 +16,39 @@ longestZone = 64
 abbrev pub longestBuffer : ℕ
 longestBuffer = 65536
 
+-- a record by its fields, in their order
+abbrev pub recordOf : ℤ → ℕ → ℕ → ℕ → ℕ → ℕ → ℕ → ℕ → ℕ → ℤ → Bool → ℤ → Record
+recordOf year month day hour minute second nanoseconds weekday dayOfYear to-int utc offset =
+    record {
+      year = year;
+      month = month;
+      day = day;
+      hour = hour;
+      minute = minute;
+      second = second;
+      nanoseconds = nanoseconds;
+      «day_of_week» = weekday;
+      «day_of_year» = dayOfYear;
+      «to_int» = to-int;
+      «is_utc» = utc;
+      «utc_offset» = offset;
+    }
+
 -- the fields that have a range. "Year, to_int, offset: any."
 pub data Field : Type 0 where
   month day hour minute second nanoseconds weekday dayOfYear zoneName : Field
 
 -- "zone bytes below 128"
+abbrev pub zoneByteOk : ℕ → Bool
+zoneByteOk b = ltb b 128
+
 unfoldable pub zoneOk : List ℕ → Bool
 zoneOk [] = true
-zoneOk (b ∷ zone) = ltb b 128 && zoneOk zone
+zoneOk (b ∷ zone) = zoneByteOk b && zoneOk zone
+
+-- "day of year 1..366", in any year
+abbrev pub lastDayOf : ℤ → ℕ
+lastDayOf year = 366
 
 abbrev pub within : ℕ → ℕ → ℕ → Bool
 within least most n = leb least n && leb n most
@@ -36,7 +62,7 @@ okField minute r zone = leb (r .minute) 59
 okField second r zone = leb (r .second) 60
 okField nanoseconds r zone = leb (r .nanoseconds) 999999999
 okField weekday r zone = leb (r .«day_of_week») 6
-okField dayOfYear r zone = within 1 366 (r .«day_of_year»)
+okField dayOfYear r zone = within 1 (lastDayOf (r .year)) (r .«day_of_year»)
 okField zoneName r zone = zoneOk zone
 
 unfoldable pub allOk : List Field → Record → List ℕ → Bool

@@ -13,6 +13,13 @@ numberOf WriteZero = 4
 numberOf InputTooLong = 5
 numberOf NoBuffer = 6
 
+-- the refusals that an event of a format can give
+pub data ByEvent : ℕ → Type 0 where
+  invalid-time : ByEvent 1
+  invalid-format-string : ByEvent 2
+  formatted-string-too-large : ByEvent 3
+  write-zero : ByEvent 4
+
 -- a number of the table, and a length or a size
 pub record Report : Type 0 where
   pub number : ℕ

@@ -3,7 +3,7 @@ use mathlib.Core.Path.{_≡_}
 use mathlib.Core.Bool.{Bool, true, false}
 use mathlib.Core.List.{List}
 use mathlib.Core.Logic.{_⊎_}
-use Prim.Native.Nat.{ℕ, _≤_, _<_}
+use Prim.Native.Nat.{ℕ, suc, _≤_, _<_}
 use lib.ListN.{length}
 use lib.IntN.{ℤ}
 use lib.Signed.{mag}
@@ -12,7 +12,7 @@ use Rattle.rules.specs.Record.{InRange, longestFormat, longestZone, long
 use Rattle.rules.specs.Refusal.{Report}
 use Rattle.rules.specs.Event.{Outcome, done, refused, textOf}
 use Rattle.rules.specs.Writing.{eventsOf}
-use Rattle.rules.specs.Format.{items, events, whole, formatted}
+use Rattle.rules.specs.Format.{items, events, fault, formatted}
 
 -- a set of records, each with its zone name
 abbrev pub Stamps : Type 1
@@ -21,9 +21,13 @@ Stamps = Record → List ℕ → Type 0
 abbrev pub textFor : List ℕ → List ℕ → Record → List ℕ
 textFor format zone r = textOf (events (eventsOf r zone) (items format))
 
+-- "its text or InvalidTime": what a record may get in place of its text
+abbrev pub Excused : ℕ → Type 0
+Excused number = number ≡ 1
+
 -- "a buffer of N bytes gives every record .. its text or InvalidTime, and one record .. needs exactly N"
 pub record SizeIs (Every Some : Stamps) (format : List ℕ) (n : ℕ) : Type 0 where
-  pub serves : (r : Record) (zone : List ℕ) → Every r zone → (formatted format zone r n ≡ done (textFor format zone r)) ⊎ (formatted format zone r n ≡ refused 1)
+  pub serves : (r : Record) (zone : List ℕ) → Every r zone → (formatted format zone r n ≡ done (textFor format zone r)) ⊎ ((number : ℕ) × (Excused number × (formatted format zone r n ≡ refused number)))
   pub one : Record
   pub one-zone : List ℕ
   pub one-in : Some one one-zone
@@ -45,9 +49,9 @@ pub record Kept (format : List ℕ) (longest : ℕ) : Type 0 where
 -- "Sizing: 5, then 2 for any format that ends inside a directive, then 6." "its refusals report size 0"
 pub data Sizing (Every Some : Stamps) (format : List ℕ) (longest : ℕ) : Report → Type 0 where
   too-long : (longestFormat < length format) ⊎ (longestZone < longest) → Sizing Every Some format longest (record { number = 5; bytes = 0 })
-  ends-inside : Kept format longest → whole (items format) ≡ false → Sizing Every Some format longest (record { number = 2; bytes = 0 })
-  no-buffer : Kept format longest → whole (items format) ≡ true → NoneServes Some format → Sizing Every Some format longest (record { number = 6; bytes = 0 })
-  needs : (n : ℕ) → Kept format longest → whole (items format) ≡ true → SizeIs Every Some format n → Sizing Every Some format longest (record { number = 0; bytes = n })
+  faulty : (n : ℕ) → Kept format longest → fault (items format) ≡ suc n → Sizing Every Some format longest (record { number = suc n; bytes = 0 })
+  no-buffer : Kept format longest → fault (items format) ≡ 0 → NoneServes Some format → Sizing Every Some format longest (record { number = 6; bytes = 0 })
+  needs : (n : ℕ) → Kept format longest → fault (items format) ≡ 0 → SizeIs Every Some format n → Sizing Every Some format longest (record { number = 0; bytes = n })
 
 -- the numbers of a record fit their types
 pub record Typed (r : Record) : Type 0 where

@@ -26,7 +26,7 @@ use Rattle.rules.specs.declared.Spec.the-variants.{Number as number, Nam
 use Rattle.rules.specs.declared.Piece.{Piece}
 use Rattle.rules.specs.Ascii.{byte, ascii}
 use Rattle.rules.specs.Record.{Field, month, day, hour, minute, second, nanoseconds, weekday, dayOfYear, zoneName, allOk}
-use Rattle.rules.specs.Event.{Write, put, pad, Event, write, check}
+use Rattle.rules.specs.Event.{Write, put, pad, Event, write, judged}
 use Rattle.rules.specs.Decimal.{digits, places, two, decimalText, Fill, zeros, spaces, fillByte, filled, floorDiv, floorMod}
 use Rattle.rules.specs.Name.{dayName, monthName, abbreviated, Case, asItIs, raised, inCase, before12, nameOf, caseOf, zoneCase}
 use Rattle.rules.specs.Week.{weekNumber, isoWeek}
@@ -300,9 +300,16 @@ bodyOf TimeZoneName p r zone = zoneWrites p zone
 bodyOf (fixed f) p r zone = nameWrites p (fixedByte f ∷ [])
 bodyOf (combination c) p r zone = put (combinationText c (p .flags) r) ∷ []
 
--- InvalidTime, 1: "a field the directive reads is out of range". "A field that no directive reads isn't checked."
+-- what the check of a directive comes to: 0, or the refusal's number. InvalidTime, 1: "a field the directive reads is out of range"
+unfoldable pub verdict : Bool → ℕ
+verdict inRange = cond inRange 0 1
+
+-- "A field that no directive reads isn't checked."
+unfoldable pub verdictOf : Spec → Record → List ℕ → ℕ
+verdictOf s r zone = verdict (allOk (fieldsOf s) r zone)
+
 unfoldable pub specEvents : Spec → Piece → Record → List ℕ → List Event
-specEvents s p r zone = map write (leadOf s p (r .year)) ++ (check (allOk (fieldsOf s) r zone) 1 ∷ map write (bodyOf s p r zone))
+specEvents s p r zone = map write (leadOf s p (r .year)) ++ (judged (verdictOf s r zone) ∷ map write (bodyOf s p r zone))
 
 unfoldable pub eventsOf : Record → List ℕ → Piece → List Event
 eventsOf r zone p = specEvents (p .spec) p r zone

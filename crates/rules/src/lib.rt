@@ -2,7 +2,14 @@
 ghost use mathlib.Core.Path.{_≡_};
 ghost use mathlib.Core.Bool.{_||_};
 ghost use Rattle.rules.specs.Reading.{noFlags, withFlag, hasFlag};
-ghost use Rattle.rules.specs.Refusal.{numberOf};
+ghost use Rattle.rules.specs.Refusal.{numberOf, ByEvent};
+
+// The longest inputs, in bytes.
+pub const LONGEST_FORMAT: usize = 4096;
+
+pub const LONGEST_ZONE: usize = 64;
+
+pub const LONGEST_BUFFER: usize = 65536;
 
 // A time, flat: the fields are independent. The zone name is a byte slice beside it.
 pub struct Record {
@@ -67,7 +74,7 @@ impl Flags {
     pub fn has_change_or_upper_case(self) -> bool
         ensures { λ r. ⌜ r ≡ (self .change || self .upper) ⌝ }
     {
-        self.change || self.upper
+        self.contains(Flag::ChangeCase) || self.contains(Flag::UpperCase)
     }
 }
 
@@ -228,6 +235,19 @@ pub fn number_of(refusal: Refusal) -> u32
         Refusal::WriteZero => 4,
         Refusal::InputTooLong => 5,
         Refusal::NoBuffer => 6,
+    }
+}
+
+// The refusal with the number that an event of a format gave.
+pub fn refusal_of(number: usize) -> Refusal
+    requires { ⌜ ByEvent number ⌝ }
+    ensures { λ r. ⌜ numberOf r ≡ number ⌝ }
+{
+    match number {
+        1 => Refusal::InvalidTime,
+        2 => Refusal::InvalidFormatString,
+        3 => Refusal::FormattedStringTooLarge,
+        _ => Refusal::WriteZero,
     }
 }
 
