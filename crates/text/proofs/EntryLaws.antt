@@ -5,9 +5,9 @@ use Prim.Native.Nat.{ℕ, _-_, _/_, _≤_, _<_}
 use native.Mathlib.Omega.{arith}
 use lib.ListN.{length, take, drop, length-append, drop-of-length-le}
 use lib.Seq.{take-all, take-append-seam, length-take-le, length-front}
-use Rattle.rules.specs.Event.{Event, textOf, Count, no, tally, outcomeOf, done, refused, run, bufferAfter}
+use Rattle.rules.specs.Event.{Event, textOf, Count, no, tally, outcomeOf, done, refused, run, bufferAfter, reachOf}
 use Rattle.rules.proofs.EventLaws.{length-text}
-use Rattle.text.specs.Ran.{countAt, reachOf, Ran}
+use Rattle.text.specs.Ran.{countAt, Ran}
 use Rattle.text.specs.Room.{Room}
 use Rattle.text.specs.Overlay.{overlay}
 use Rattle.text.proofs.OverlayLaws.{overlay-front, overlay-taken}

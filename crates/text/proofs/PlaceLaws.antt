@@ -5,9 +5,9 @@ use Prim.Native.Nat.{ℕ, _+_, _-_, _*_, _/_, _%_, _≤_, _<_}
 use native.Mathlib.Omega.{arith}
 use borrow.Author.Tests.{le-leb, lt-leb, leb-true, leb-false}
 use lib.Dec.{leb, leb→le, nleb→lt}
-use Rattle.rules.specs.Event.{Count, at, no}
+use Rattle.rules.specs.Event.{Count, at, no, reachOf}
 use Rattle.rules.proofs.EventLaws.{splitOn}
-use Rattle.text.specs.Ran.{countAt, reachOf}
+use Rattle.text.specs.Ran.{countAt}
 
 pub count-at : (n : ℕ) → n ≤ 65536 → countAt n ≡ at n
 unfolding countAt

@@ -7,10 +7,10 @@ use native.Mathlib.Omega.{arith}
 use native.Mathlib.Decide.{decLt}
 use lib.ListN.{length, take, drop, replicate, length-take}
 use lib.Seq.{take-all, take-nil, take-append-le, take-append-add}
-use Rattle.rules.specs.Event.{put, pad, Event, write, check, bytesOf, textOf, lengthOf, at, tally}
+use Rattle.rules.specs.Event.{put, pad, Event, write, check, bytesOf, textOf, lengthOf, at, tally, reachOf}
 use Rattle.rules.proofs.EventLaws.{length-text, text-join, tally-join, tally-no, tally-done, tally-room, stop-first}
 use Rattle.text.specs.Overlay.{overlay}
-use Rattle.text.specs.Ran.{countAt, reachOf, Ran}
+use Rattle.text.specs.Ran.{countAt, Ran}
 use Rattle.text.specs.Room.{Room}
 use Rattle.text.proofs.OverlayLaws.{overlay-nil, length-overlay, overlay-append, overlay-clipped, overlay-front-of, overlay-before, overlay-behind}
 use Rattle.text.proofs.PlaceLaws.{count-at, count-no, by-place, same-place, reach-at, reach-no, reach-past}

@@ -4,17 +4,16 @@ use mathlib.Core.Bool.{true, false}
 use mathlib.Core.List.{List, [], _∷_}
 use Prim.Native.Nat.{ℕ, _+_, _≤_, _<_}
 use native.Mathlib.Omega.{arith}
-use Rattle.rules.specs.Event.{Event, write, check, sizeOf, lengthOf, at, one, tally}
+use Rattle.rules.specs.Event.{Event, write, check, writeLength, lengthOf, at, one, tally, reachOf}
 use Rattle.rules.proofs.EventLaws.{write-cases, tally-no}
-use Rattle.text.specs.Ran.{reachOf}
 
 module _ (limit room : ℕ) where
   pub reach-most : (es : List Event) (n : ℕ) → reachOf (tally limit room es (at n)) ≤ n + lengthOf es
   unfolding tally one lengthOf reachOf
   reach-most [] n = omega arith
   reach-most (write w ∷ es) n =
-      write-cases limit room (λ c. reachOf (tally limit room es c) ≤ n + (sizeOf w + lengthOf es)) w n
-      (λ fit. omega (arith, reach-most es (n + sizeOf w)))
+      write-cases limit room (λ c. reachOf (tally limit room es c) ≤ n + (writeLength w + lengthOf es)) w n
+      (λ fit. omega (arith, reach-most es (n + writeLength w)))
       (λ short. rw (tally-no limit room es 4 room) (omega arith)) (λ far. rw (tally-no limit room es 3 n) (omega arith))
   reach-most (check true number ∷ es) n = reach-most es n
   reach-most (check false number ∷ es) n = rw (tally-no limit room es number n) (omega arith)
@@ -24,7 +23,7 @@ module _ (limit room : ℕ) where
   reach-least [] n h = omega arith
   reach-least (write w ∷ es) n h =
       write-cases limit room (λ c. n ≤ reachOf (tally limit room es c)) w n
-      (λ fit. omega (arith, reach-least es (n + sizeOf w) fit))
+      (λ fit. omega (arith, reach-least es (n + writeLength w) fit))
       (λ short. rw (tally-no limit room es 4 room) h) (λ far. rw (tally-no limit room es 3 n) (omega arith))
   reach-least (check true number ∷ es) n h = reach-least es n h
   reach-least (check false number ∷ es) n h = rw (tally-no limit room es number n) (omega arith)

@@ -2,14 +2,18 @@
 // A place is the bytes so far (0 to 65,536), or, once refused, how far the text came plus 131,072 times the refusal's number.
 ghost use mathlib.Core.Path.{_≡_};
 ghost use mathlib.Core.List.{List, [], _∷_, _++_};
-ghost use Prim.Native.Nat.{ℕ, _+_, _-_, _≤_, _<_};
-ghost use lib.Dec.{leb};
+ghost use Prim.Native.Nat.{ℕ, _+_, _-_, _/_, _≤_, _<_};
+ghost use lib.Dec.{ltb, leb};
 ghost use lib.ListN.{length, take, drop, replicate};
+ghost use Rattle.rules.specs.Record.{longestBuffer};
+ghost use Rattle.rules.specs.Refusal.{numberOf, ByEvent};
 ghost use Rattle.rules.specs.Event as event;
 ghost use Rattle.rules.specs.Decimal.{places};
 ghost use Rattle.text.specs.Overlay.{overlay};
-ghost use Rattle.text.specs.Ran.{countAt, Ran};
+ghost use Rattle.text.specs.Ran.{refusedUnit, countAt, Ran};
 ghost use Rattle.text.specs.Room.{Room};
+use rules::LONGEST_BUFFER;
+use rules::Refusal;
 
 // Whether `count` more bytes end within `len`: no sum is made that could wrap.
 pub fn fits(at: usize, count: usize, len: usize) -> bool
@@ -21,21 +25,38 @@ pub fn fits(at: usize, count: usize, len: usize) -> bool
     false
 }
 
+// What a refused place counts for each number of its refusal: twice the longest buffer.
+const REFUSED_UNIT: usize = 131072;
+
 // The place of a refusal: its number, and how far the text came.
 fn refused(number: usize, reach: usize) -> usize
-    requires { ⌜ (1 ≤ number) × (number ≤ 255) × (reach ≤ 65536) ⌝ }
+    requires { ⌜ (1 ≤ number) × (number ≤ 255) × (reach ≤ longestBuffer) ⌝ }
     ensures count { λ r. ⌜ countAt r ≡ event.no number reach ⌝ }
-    ensures past { λ r. ⌜ 131072 ≤ r ⌝ }
+    ensures past { λ r. ⌜ refusedUnit ≤ r ⌝ }
 {
-    number * 131072 + reach
+    number * REFUSED_UNIT + reach
+}
+
+pub fn is_refused(place: usize) -> bool
+    ensures { λ r. ⌜ r ≡ ltb longestBuffer place ⌝ }
+{
+    LONGEST_BUFFER < place
+}
+
+// The refusal of a refused place.
+pub fn refusal_at(place: usize) -> Refusal
+    requires { ⌜ ByEvent (place / refusedUnit) ⌝ }
+    ensures { λ r. ⌜ numberOf r ≡ place / refusedUnit ⌝ }
+{
+    rules::refusal_of(place / REFUSED_UNIT)
 }
 
 // The place after `count` bytes, of which those that have a place in the slice were laid there.
 pub fn missed(at: usize, count: usize, room: usize) -> usize
-    requires { ⌜ room ≤ 65536 ⌝ }
+    requires { ⌜ room ≤ longestBuffer ⌝ }
     ensures { λ r. ⌜ ((limit : ℕ) (t l l′ : List ℕ) → length t ≡ count → length l ≤ room → l′ ≡ overlay at t l → Ran limit room (event.write (event.put t) ∷ []) l at l′ r) ⌝ }
 {
-    if 65536 < at {
+    if LONGEST_BUFFER < at {
         return at;
     }
     if fits(at, count, room) {
@@ -44,18 +65,18 @@ pub fn missed(at: usize, count: usize, room: usize) -> usize
     refused(4, room)
 }
 
-// The place after a check.
-pub fn checked(at: usize, ok: bool, number: usize) -> usize
-    requires { ⌜ (1 ≤ number) × (number ≤ 255) ⌝ }
-    ensures { λ r. ⌜ ((limit room : ℕ) (l : List ℕ) → Ran limit room (event.check ok number ∷ []) l at l r) ⌝ }
+// The place after a check, whose verdict is 0 or the refusal's number.
+pub fn judged(at: usize, verdict: usize) -> usize
+    requires { ⌜ verdict ≤ 255 ⌝ }
+    ensures { λ r. ⌜ ((limit room : ℕ) (l : List ℕ) → Ran limit room (event.judged verdict ∷ []) l at l r) ⌝ }
 {
-    if ok {
+    if verdict == 0 {
         return at;
     }
-    if 65536 < at {
+    if LONGEST_BUFFER < at {
         return at;
     }
-    refused(number, at)
+    refused(verdict, at)
 }
 
 fn copy(out: &mut [u8], at: usize, src: &[u8])
@@ -211,7 +232,7 @@ fn missed_pad(out: &mut [u8], at: usize, room: usize, limit: usize, byte: u8, co
     requires { ⌜ Room (now out) room ⌝ }
     ensures { λ r. ⌜ Ran limit room (event.write (event.pad byte count) ∷ []) (now (out .entry)) at (now (out .exit)) r ⌝ }
 {
-    if 65536 < at {
+    if LONGEST_BUFFER < at {
         return at;
     }
     if fits(at, count, limit) {
@@ -221,7 +242,7 @@ fn missed_pad(out: &mut [u8], at: usize, room: usize, limit: usize, byte: u8, co
 }
 
 pub fn pad(out: &mut [u8], at: usize, room: usize, limit: usize, byte: u8, count: usize) -> usize
-    requires { ⌜ Room (now out) room × (65536 ≤ limit) ⌝ }
+    requires { ⌜ Room (now out) room × (longestBuffer ≤ limit) ⌝ }
     ensures { λ r. ⌜ Ran limit room (event.write (event.pad byte count) ∷ []) (now (out .entry)) at (now (out .exit)) r ⌝ }
 {
     if fits(at, count, out.len()) {
