@@ -7,9 +7,9 @@ use native.Mathlib.Numerals.{add-one}
 use lib.Dec.{leb}
 use lib.ListN.{length, drop, getD, drop-of-length-le}
 use lib.Seq.{drop-cons}
-use borrow.Author.Tests.{le-leb, lt-leb, lt-ltb, le-ltb}
+use borrow.Author.Tests.{le-leb, lt-leb}
 use Rattle.rules.specs.declared.Record.{Record}
-use Rattle.rules.specs.Record.{Field, okField, allOk, within, zoneOk}
+use Rattle.rules.specs.Record.{Field, okField, allOk, within, zoneByteOk, zoneOk}
 
 -- ## `a && b`: it is b where a holds, else a
 
@@ -53,13 +53,13 @@ module _ (r : Record) (zone : List ℕ) where
 
 -- ## The bytes of a zone name, from one on
 
-pub zone-more : (zone : List ℕ) (i : ℕ) → i < length zone → getD zone i 0 < 128 → zoneOk (drop i zone) ≡ zoneOk (drop (i + 1) zone)
+pub zone-more : (zone : List ℕ) (i : ℕ) → i < length zone → zoneByteOk (getD zone i 0) ≡ true → zoneOk (drop i zone) ≡ zoneOk (drop (i + 1) zone)
 unfolding zoneOk
-zone-more zone i h b = rw (drop-cons zone i 0 h, lt-ltb (getD zone i 0) 128 b, add-one)
+zone-more zone i h b = rw (drop-cons zone i 0 h, b, add-one)
 
-pub zone-failed : (zone : List ℕ) (i : ℕ) → i < length zone → 128 ≤ getD zone i 0 → zoneOk (drop i zone) ≡ false
+pub zone-failed : (zone : List ℕ) (i : ℕ) → i < length zone → zoneByteOk (getD zone i 0) ≡ false → zoneOk (drop i zone) ≡ false
 unfolding zoneOk
-zone-failed zone i h b = rw (drop-cons zone i 0 h, le-ltb (getD zone i 0) 128 b)
+zone-failed zone i h b = rw (drop-cons zone i 0 h, b)
 
 pub zone-done : (zone : List ℕ) (i : ℕ) → length zone ≤ i → zoneOk (drop i zone) ≡ true
 unfolding zoneOk

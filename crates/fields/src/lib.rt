@@ -1,11 +1,18 @@
-// Ports check.rs: whether a field is in its range.
+// Ports check.rs: whether a field is in its range, and what a directive's check comes to.
 ghost use mathlib.Core.Path.{_≡_};
 ghost use mathlib.Core.List.{List, [], _∷_};
 ghost use Prim.Native.Nat.{ℕ};
-ghost use Rattle.rules.specs.Record.{okField, allOk, zoneOk, month, day, hour, minute, second, nanoseconds, weekday, dayOfYear};
-ghost use Rattle.rules.specs.Writing.{combinationFields};
+ghost use Rattle.rules.specs.Record.{okField, allOk, zoneByteOk, zoneOk, lastDayOf, month, day, hour, minute, second, nanoseconds, weekday, dayOfYear};
+ghost use Rattle.rules.specs.Writing.{combinationFields, verdict};
 ghost use Rattle.rules.specs.declared.Combination.the-variants.{CombinationDateTime};
 use rules::Record;
+
+// What the check of a directive comes to: 0, or the refusal's number.
+pub fn verdict(ok: bool) -> usize
+    ensures { λ r. ⌜ r ≡ verdict ok ⌝ }
+{
+    if ok { 0 } else { 1 }
+}
 
 pub fn month(record: Record) -> bool
     ensures { λ r. ⌜ ((zone : List ℕ) → r ≡ okField month «record» zone) ⌝ }
@@ -49,10 +56,22 @@ pub fn day_of_week(record: Record) -> bool
     record.day_of_week <= 6
 }
 
+fn last_day_of(year: i32) -> u16
+    ensures { λ r. ⌜ r ≡ lastDayOf year ⌝ }
+{
+    366
+}
+
 pub fn day_of_year(record: Record) -> bool
     ensures { λ r. ⌜ ((zone : List ℕ) → r ≡ okField dayOfYear «record» zone) ⌝ }
 {
-    1 <= record.day_of_year && record.day_of_year <= 366
+    1 <= record.day_of_year && record.day_of_year <= last_day_of(record.year)
+}
+
+fn zone_byte(b: u8) -> bool
+    ensures { λ r. ⌜ r ≡ zoneByteOk b ⌝ }
+{
+    b < 128
 }
 
 pub fn time_zone(zone: &[u8]) -> bool
@@ -60,7 +79,7 @@ pub fn time_zone(zone: &[u8]) -> bool
 {
     let mut i = 0;
     while i < zone.len() {
-        if zone[i] >= 128 {
+        if !zone_byte(zone[i]) {
             return false;
         }
         i += 1;
