@@ -1,24 +1,21 @@
 -- The runs of a fraction of a second, and that they are those of its directive.
 use mathlib.Core.Path.{_≡_, refl, ap, _∙_}
-use mathlib.Core.Bool.{Bool}
 use mathlib.Core.List.{List, [], _∷_, map}
 use Prim.Native.Nat.{ℕ, _-_, _/_, _^_, _≤_, _<_, min}
 use native.Mathlib.Nat.{pow-le-pow-right, div-le-self}
 use native.Mathlib.Omega.{arith}
-use lib.Dec.{leb, lit<}
+use lib.Dec.{lit<}
 use mir.Syntax.{w32, w64}
 use mir.Val.{Fits}
 use Rattle.rules.specs.declared.Fraction.{Fraction}
 use Rattle.rules.specs.declared.Piece.{Piece}
 use Rattle.rules.specs.declared.Record.{Record}
 use Rattle.rules.specs.declared.Spec.the-variants.{Fraction as fraction}
-use Rattle.rules.specs.Event.{put, pad, write, check}
+use Rattle.rules.specs.Event.{put, pad, write, judged}
 use Rattle.rules.specs.Decimal.{places}
-use Rattle.rules.specs.Record.{nanoseconds, okField}
-use Rattle.rules.specs.Writing.{widthOr, fractionDigits, fractionWrites, fieldsOf, leadOf, bodyOf, specEvents}
+use Rattle.rules.specs.Writing.{widthOr, fractionDigits, fractionWrites, leadOf, bodyOf, verdictOf, specEvents}
 use Rattle.text.specs.Ran.{Ran}
 use Rattle.text.proofs.RanLaws.{_then_, same-events, pad-none-after}
-use Rattle.fields.proofs.Laws.{alone}
 
 module _ (width nanos : ℕ) where
   fraction-writes : {count value zeros : ℕ} → count ≡ min width 9 → value ≡ nanos / 10 ^ (9 - width) → zeros ≡ width - 9 → write (put (places count value)) ∷ write (pad 48 zeros) ∷ [] ≡ map write (fractionWrites width nanos)
@@ -48,11 +45,8 @@ quotient-fits n d f = record { fits = omega (arith, div-le-self n d) }
 
 -- ## The directive
 
-module _ (f : Fraction) (p : Piece) (r : Record) (zone : List ℕ) where
-  pub fraction-events : check (leb (r .nanoseconds) 999999999) 1 ∷ map write (fractionWrites (widthOr (p .width) (fractionDigits f)) (r .nanoseconds)) ≡ specEvents (fraction f) p r zone
-  unfolding specEvents leadOf fieldsOf bodyOf okField
-  fraction-events = ap (λ (ok : Bool). check ok 1 ∷ map write (fractionWrites (widthOr (p .width) (fractionDigits f)) (r .nanoseconds))) (alone r zone nanoseconds refl)
-
-  pub fraction-run : {limit room width : ℕ} → width ≡ widthOr (p .width) (fractionDigits f) → {l l′ : List ℕ} {n n′ : ℕ} → Ran limit room (check (leb (r .nanoseconds) 999999999) 1 ∷ map write (fractionWrites width (r .nanoseconds))) l n l′ n′ → Ran limit room (specEvents (fraction f) p r zone) l n l′ n′
-  fraction-run e w =
-      same-events (ap (λ (k : ℕ). check (leb (r .nanoseconds) 999999999) 1 ∷ map write (fractionWrites k (r .nanoseconds))) e ∙ fraction-events) w
+pub fraction-run : (f : Fraction) (p : Piece) (r : Record) (zone : List ℕ) {limit room width : ℕ} → width ≡ widthOr (p .width) (fractionDigits f) → {l l′ : List ℕ} {n n′ : ℕ}
+    → Ran limit room (judged (verdictOf (fraction f) r zone) ∷ map write (fractionWrites width (r .nanoseconds))) l n l′ n′ → Ran limit room (specEvents (fraction f) p r zone) l n l′ n′
+unfolding specEvents leadOf bodyOf
+fraction-run f p r zone e w =
+    same-events (ap (λ (k : ℕ). judged (verdictOf (fraction f) r zone) ∷ map write (fractionWrites k (r .nanoseconds))) e) w

@@ -10,12 +10,13 @@ use Rattle.rules.specs.declared.Padding.the-variants.{Left, Spaces, Zeros}
 use Rattle.rules.specs.declared.Piece.{Piece}
 use Rattle.rules.specs.declared.Record.{Record}
 use Rattle.rules.specs.declared.Spec.the-variants.{Number as number}
-use Rattle.rules.specs.Event.{put, pad, write, check}
+use Rattle.rules.specs.Event.{put, pad, write, judged}
 use Rattle.rules.specs.Decimal.{Fill, zeros, fillByte, filled}
-use Rattle.rules.specs.Writing.{widthOr, defaultWidth, valueOf, numberWrites, fieldsOf, leadOf, bodyOf, specEvents}
+use Rattle.rules.specs.Writing.{widthOr, defaultWidth, valueOf, numberWrites, fieldsOf, leadOf, bodyOf, verdict as verdictBy, specEvents}
 use Rattle.rules.proofs.DecimalLaws.{filled-plain, length-text-from}
 use Rattle.text.specs.Ran.{Ran}
-use Rattle.text.proofs.RanLaws.{_then_, same-events, said, told, pad-none, checks-hold, stopped}
+use Rattle.text.proofs.RanLaws.{_then_, same-events, said, pad-none}
+use Rattle.text.proofs.JudgedLaws.{verdict-held, passes, stops}
 use Rattle.printing.specs.FillWith.{fillWith}
 use Rattle.values.specs.declared.Value.{Value}
 use Rattle.values.specs.Value.{fillBy, ValueIs}
@@ -55,7 +56,7 @@ module _ (fill : Fill) (width : ℕ) (v : ℤ) where
 
 -- ## The directive
 
-module _ (n : Number) (p : Piece) (r : Record) (zone : List ℕ) {value : Value} (is : ValueIs n r value) where
+module _ (n : Number) (p : Piece) (r : Record) (zone : List ℕ) {value : Value} {verdict : ℕ} (is : ValueIs n r value) (judges : verdict ≡ verdictBy (value .ok)) where
   body : value .ok ≡ true → {left : Bool} {fill : Fill} {width : ℕ} {v : ℤ} → p .flags .left ≡ left → fill ≡ fillBy (value .space) (p .padding) → width ≡ widthOr (p .width) (value .width) → v ≡ value .number
       → map write (numberWrites left fill width v) ≡ map write (bodyOf (number n) p r zone)
   unfolding bodyOf
@@ -63,11 +64,11 @@ module _ (n : Number) (p : Piece) (r : Record) (zone : List ℕ) {value : Value}
       let d : widthOr (p .width) (value .width) ≡ widthOr (p .width) (defaultWidth n (valueOf n r)) = ap (widthOr (p .width)) (is .width t) in
       cc (is .fill (p .padding), is .number t)
 
-  pub number-held : value .ok ≡ true → {left : Bool} {fill : Fill} {width : ℕ} {v : ℤ} → p .flags .left ≡ left → fill ≡ fillBy (value .space) (p .padding) → width ≡ widthOr (p .width) (value .width) → v ≡ value .number
+  pub number-held : verdict ≡ 0 → {left : Bool} {fill : Fill} {width : ℕ} {v : ℤ} → p .flags .left ≡ left → fill ≡ fillBy (value .space) (p .padding) → width ≡ widthOr (p .width) (value .width) → v ≡ value .number
       → {limit room : ℕ} {l l′ : List ℕ} {a b : ℕ} → Ran limit room (map write (numberWrites left fill width v)) l a l′ b → Ran limit room (specEvents (number n) p r zone) l a l′ b
   unfolding specEvents leadOf fieldsOf
-  number-held t e f w x v = told (sym t ∙ is .ok zone) (checks-hold (same-events (body t e f w x) v))
+  number-held z e f w x v = passes (number n) r zone (is .ok zone) judges z (same-events (body (verdict-held (value .ok) judges z) e f w x) v)
 
-  pub number-failed : value .ok ≡ false → {limit room : ℕ} {l : List ℕ} {a b : ℕ} → Ran limit room (check false 1 ∷ []) l a l b → Ran limit room (specEvents (number n) p r zone) l a l b
+  pub number-failed : (verdict ≡ 0 → ⊥) → {limit room : ℕ} {l : List ℕ} {a b : ℕ} → Ran limit room (judged verdict ∷ []) l a l b → Ran limit room (specEvents (number n) p r zone) l a l b
   unfolding specEvents leadOf fieldsOf
-  number-failed t w = told (sym t ∙ is .ok zone) (stopped w)
+  number-failed h w = stops (number n) r zone (is .ok zone) judges h w

@@ -3,16 +3,18 @@ ghost use mathlib.Core.Path.{_≡_};
 ghost use mathlib.Core.Bool.{false};
 ghost use mathlib.Core.List.{List, [], _∷_, map};
 ghost use Prim.Native.Nat.{ℕ, _≤_};
-ghost use lib.Dec.{leb};
+ghost use Rattle.rules.specs.declared.Fraction as declared;
 ghost use Rattle.rules.specs.declared.Spec.the-variants as spec;
+ghost use Rattle.rules.specs.Record.{longestBuffer};
 ghost use Rattle.rules.specs.Event as event;
 ghost use Rattle.rules.specs.Decimal.{fillByte, filled};
-ghost use Rattle.rules.specs.Writing.{numberWrites, fractionDigits, fractionWrites, specEvents};
+ghost use Rattle.rules.specs.Writing.{numberWrites, fractionDigits, fractionWrites, verdictOf, specEvents};
 ghost use Rattle.text.specs.Ran.{Ran};
 ghost use Rattle.text.specs.Room.{Room};
 ghost use Rattle.printing.specs.FillWith.{fillWith};
 ghost use Rattle.printing.specs.Plain.{plainPiece};
 ghost use Rattle.values.specs.Value.{fillBy};
+use rules::Flag;
 use rules::Fraction;
 use rules::Number;
 use rules::Padding;
@@ -46,7 +48,7 @@ fn format_num(
     width: usize,
     zeros: bool,
 ) -> usize
-    requires { ⌜ Room (now out) room × (65536 ≤ limit) ⌝ }
+    requires { ⌜ Room (now out) room × (longestBuffer ≤ limit) ⌝ }
     ensures { λ r. ⌜ Ran limit room (map event.write (numberWrites false (fillWith zeros) width v)) (now (out .entry)) at (now (out .exit)) r ⌝ }
 {
     if width <= 65535 {
@@ -65,14 +67,16 @@ pub fn number(
     number: Number,
     record: Record,
 ) -> usize
-    requires { ⌜ Room (now out) room × (65536 ≤ limit) ⌝ }
+    requires { ⌜ Room (now out) room × (longestBuffer ≤ limit) ⌝ }
     ensures { λ r. ⌜ ((zone : List ℕ) → Ran limit room (specEvents (spec.Number number) piece «record» zone) (now (out .entry)) at (now (out .exit)) r) ⌝ }
 {
     let value = values::value_of(number, record);
-    if !value.ok {
-        return text::checked(at, false, 1);
+    let verdict = fields::verdict(value.ok);
+    if verdict != 0 {
+        return text::judged(at, verdict);
     }
-    if piece.flags.left {
+    let flags = piece.flags;
+    if flags.contains(Flag::LeftPadding) {
         return printing::put_decimal(out, at, room, value.number, 1, true);
     }
     let given = piece.width;
@@ -98,11 +102,12 @@ fn put_quick(out: &mut [u8], at: usize, room: usize, v: i64, width: usize, zeros
 
 pub fn plain_number(out: &mut [u8], at: usize, room: usize, number: Number, record: Record) -> usize
     requires { ⌜ Room (now out) room ⌝ }
-    ensures { λ r. ⌜ ((limit : ℕ) (zone : List ℕ) → 65536 ≤ limit → Ran limit room (specEvents (spec.Number number) (plainPiece (spec.Number number)) «record» zone) (now (out .entry)) at (now (out .exit)) r) ⌝ }
+    ensures { λ r. ⌜ ((limit : ℕ) (zone : List ℕ) → longestBuffer ≤ limit → Ran limit room (specEvents (spec.Number number) (plainPiece (spec.Number number)) «record» zone) (now (out .entry)) at (now (out .exit)) r) ⌝ }
 {
     let value = values::value_of(number, record);
-    if !value.ok {
-        return text::checked(at, false, 1);
+    let verdict = fields::verdict(value.ok);
+    if verdict != 0 {
+        return text::judged(at, verdict);
     }
     put_quick(out, at, room, value.number, value.width, !value.space)
 }
@@ -125,7 +130,7 @@ fn format_nanoseconds(
     width: usize,
     nanoseconds: u32,
 ) -> usize
-    requires { ⌜ Room (now out) room × (65536 ≤ limit) ⌝ }
+    requires { ⌜ Room (now out) room × (longestBuffer ≤ limit) ⌝ }
     ensures { λ r. ⌜ Ran limit room (map event.write (fractionWrites width nanoseconds)) (now (out .entry)) at (now (out .exit)) r ⌝ }
 {
     if width <= 9 {
@@ -142,11 +147,12 @@ pub fn fraction(
     room: usize,
     limit: usize,
     width: usize,
-    nanoseconds: u32,
+    record: Record,
 ) -> usize
-    requires { ⌜ Room (now out) room × (65536 ≤ limit) ⌝ }
-    ensures { λ r. ⌜ Ran limit room (event.check (leb nanoseconds 999999999) 1 ∷ map event.write (fractionWrites width nanoseconds)) (now (out .entry)) at (now (out .exit)) r ⌝ }
+    requires { ⌜ Room (now out) room × (longestBuffer ≤ limit) ⌝ }
+    ensures { λ r. ⌜ ((fraction : declared.Fraction) (zone : List ℕ) → Ran limit room (event.judged (verdictOf (spec.Fraction fraction) «record» zone) ∷ map event.write (fractionWrites width («record» .nanoseconds))) (now (out .entry)) at (now (out .exit)) r) ⌝ }
 {
-    let next = text::checked(at, nanoseconds <= 999_999_999, 1);
-    format_nanoseconds(out, next, room, limit, width, nanoseconds)
+    let verdict = fields::verdict(fields::nanoseconds(record));
+    let next = text::judged(at, verdict);
+    format_nanoseconds(out, next, room, limit, width, record.nanoseconds)
 }

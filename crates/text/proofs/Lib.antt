@@ -4,3 +4,4 @@ pub mod CountLaws
 pub mod ReachLaws
 pub mod RanLaws
 pub mod EntryLaws
+pub mod JudgedLaws
