@@ -21,7 +21,7 @@ use Rattle.rules.proofs.Name.{the-type}
 use Rattle.rules.proofs.RecordLaws.{Each, ranges-of}
 use Rattle.names.specs.Calendar.{caseBy, unpacked}
 use Rattle.names.proofs.CalendarLaws.{day-spelled, month-spelled}
-use Rattle.name_directive.specs.Named.{capitals, meridianText, numberOf, Named, lettersOf}
+use Rattle.name_directive.specs.Named.{capitals, meridianText, nameNumber, Named, lettersOf}
 
 -- ## A name that an arm knows
 
@@ -64,8 +64,8 @@ meridian-lowered false false = refl
 raised-by : (f : Flags) (t : List ℕ) → inCase (caseBy (f .change || f .upper)) t ≡ inCase (cond (f .upper || f .change) raised asItIs) t
 raised-by f t = ap (λ (u : Bool). inCase (caseBy u) t) (or-comm (f .change) (f .upper))
 
-pub letters-cased : (n : Name) (f : Flags) (r : Record) → lettersOf n (capitals n f) (numberOf n r) ≡ inCase (caseOf n f) (nameOf n r)
-unfolding lettersOf numberOf capitals caseOf nameOf
+pub letters-cased : (n : Name) (f : Flags) (r : Record) → lettersOf n (capitals n f) (nameNumber n r) ≡ inCase (caseOf n f) (nameOf n r)
+unfolding lettersOf nameNumber capitals caseOf nameOf
 letters-cased MonthName f r = raised-by f (monthName (r .month))
 letters-cased MonthNameAbbr f r = raised-by f (abbreviated (monthName (r .month)))
 letters-cased MeridianLower f r = meridian-raised (ltb (r .hour) 12) (f .change || f .upper) ∙ raised-by f (before12 (r .hour) (ascii "am") (ascii "pm"))
@@ -94,8 +94,8 @@ meridian-letters capital k = two-letters (ltb k 12) capital
 
 -- ## The field that a name reads
 
-checked-named : (n : Name) (r : Record) → Each (nameFields n) r → Named n (numberOf n r)
-unfolding nameFields numberOf Named
+checked-named : (n : Name) (r : Record) → Each (nameFields n) r → Named n (nameNumber n r)
+unfolding nameFields nameNumber Named
 checked-named MonthName r e = e .0
 checked-named MonthNameAbbr r e = e .0
 checked-named MeridianLower r e = tt
@@ -103,5 +103,5 @@ checked-named MeridianUpper r e = tt
 checked-named WeekDayName r e = e .0
 checked-named WeekDayNameAbbr r e = e .0
 
-pub in-range-named : (n : Name) (r : Record) {ok : Bool} {k : ℕ} → ((zone : List ℕ) → ok ≡ allOk (nameFields n) r zone) → ok ≡ true → k ≡ numberOf n r → Named n k
+pub in-range-named : (n : Name) (r : Record) {ok : Bool} {k : ℕ} → ((zone : List ℕ) → ok ≡ allOk (nameFields n) r zone) → ok ≡ true → k ≡ nameNumber n r → Named n k
 in-range-named n r f t e = subst (λ (x : ℕ). Named n x) (sym e) (checked-named n r (ranges-of (nameFields n) r [] (sym (f []) ∙ t)))

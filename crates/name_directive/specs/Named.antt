@@ -31,13 +31,13 @@ abbrev pub meridianText : Bool → ℕ → List ℕ
 meridianText capital hour = before12 hour (cond capital (ascii "AM") (ascii "am")) (cond capital (ascii "PM") (ascii "pm"))
 
 -- the number of the record that a name goes by
-unfoldable pub numberOf : Name → Record → ℕ
-numberOf MonthName r = r .month
-numberOf MonthNameAbbr r = r .month
-numberOf MeridianLower r = r .hour
-numberOf MeridianUpper r = r .hour
-numberOf WeekDayName r = r .«day_of_week»
-numberOf WeekDayNameAbbr r = r .«day_of_week»
+unfoldable pub nameNumber : Name → Record → ℕ
+nameNumber MonthName r = r .month
+nameNumber MonthNameAbbr r = r .month
+nameNumber MeridianLower r = r .hour
+nameNumber MeridianUpper r = r .hour
+nameNumber WeekDayName r = r .«day_of_week»
+nameNumber WeekDayNameAbbr r = r .«day_of_week»
 
 -- the numbers that have a name
 unfoldable pub Named : Name → ℕ → Type 0

@@ -9,15 +9,16 @@ ghost use Rattle.rules.specs.declared.Spec.the-variants as spec;
 ghost use Rattle.rules.specs.Event as event;
 ghost use Rattle.rules.specs.Name as letter;
 ghost use Rattle.rules.specs.Name.{inCase, zoneCase};
-ghost use Rattle.rules.specs.Record.{allOk};
+ghost use Rattle.rules.specs.Record.{longestBuffer, allOk};
 ghost use Rattle.rules.specs.Writing.{nameFields, fixedByte, specEvents};
 ghost use Rattle.text.specs.Overlay.{overlay};
 ghost use Rattle.text.specs.Ran.{Ran};
 ghost use Rattle.text.specs.Room.{Room};
 ghost use Rattle.printing.specs.Plain.{plainPiece};
-ghost use Rattle.name_directive.specs.Named.{padding, capitals, numberOf, Named, lettersOf, byteIn};
+ghost use Rattle.name_directive.specs.Named.{padding, capitals, nameNumber, Named, lettersOf, byteIn};
 use names::calendar;
 use rules::Fixed;
+use rules::Flag;
 use rules::Flags;
 use rules::Name;
 use rules::Piece;
@@ -32,10 +33,11 @@ fn string_padding(
     piece: Piece,
     length: usize,
 ) -> usize
-    requires { ⌜ Room (now out) room × (65536 ≤ limit) ⌝ }
+    requires { ⌜ Room (now out) room × (longestBuffer ≤ limit) ⌝ }
     ensures { λ r. ⌜ Ran limit room (map event.write (padding piece length)) (now (out .entry)) at (now (out .exit)) r ⌝ }
 {
-    if piece.flags.left {
+    let flags = piece.flags;
+    if flags.contains(Flag::LeftPadding) {
         return at;
     }
     printing::write_padding(out, at, room, limit, piece, length)
@@ -63,15 +65,15 @@ fn in_capitals(name: Name, flags: Flags) -> bool
         Name::MonthName => either,
         Name::MonthNameAbbr => either,
         Name::MeridianLower => either,
-        Name::MeridianUpper => !flags.change,
+        Name::MeridianUpper => !flags.contains(Flag::ChangeCase),
         Name::WeekDayName => either,
         Name::WeekDayNameAbbr => either,
     }
 }
 
 // The number of the record that a name goes by.
-fn number_of(name: Name, record: Record) -> u8
-    ensures { λ r. ⌜ r ≡ numberOf name «record» ⌝ }
+fn name_number(name: Name, record: Record) -> u8
+    ensures { λ r. ⌜ r ≡ nameNumber name «record» ⌝ }
 {
     match name {
         Name::MonthName => record.month,
@@ -127,16 +129,17 @@ pub fn name(
     name: Name,
     record: Record,
 ) -> usize
-    requires { ⌜ Room (now out) room × (65536 ≤ limit) ⌝ }
+    requires { ⌜ Room (now out) room × (longestBuffer ≤ limit) ⌝ }
     ensures { λ r. ⌜ ((zone : List ℕ) → Ran limit room (specEvents (spec.Name name) piece «record» zone) (now (out .entry)) at (now (out .exit)) r) ⌝ }
 {
-    if in_range(name, record) {
-        let flags = piece.flags;
-        let number = number_of(name, record);
-        let next = string_padding(out, at, room, limit, piece, name_length(name, number));
-        return put_name(out, next, room, name, number, in_capitals(name, flags));
+    let verdict = fields::verdict(in_range(name, record));
+    if verdict != 0 {
+        return text::judged(at, verdict);
     }
-    text::checked(at, false, 1)
+    let flags = piece.flags;
+    let number = name_number(name, record);
+    let next = string_padding(out, at, room, limit, piece, name_length(name, number));
+    put_name(out, next, room, name, number, in_capitals(name, flags))
 }
 
 pub fn plain_name(
@@ -147,14 +150,15 @@ pub fn plain_name(
     name: Name,
     record: Record,
 ) -> usize
-    requires { ⌜ Room (now out) room × (65536 ≤ limit) ⌝ }
+    requires { ⌜ Room (now out) room × (longestBuffer ≤ limit) ⌝ }
     ensures { λ r. ⌜ ((zone : List ℕ) → Ran limit room (specEvents (spec.Name name) (plainPiece (spec.Name name)) «record» zone) (now (out .entry)) at (now (out .exit)) r) ⌝ }
 {
-    if in_range(name, record) {
-        let number = number_of(name, record);
-        return put_name(out, at, room, name, number, in_capitals(name, Flags::new()));
+    let verdict = fields::verdict(in_range(name, record));
+    if verdict != 0 {
+        return text::judged(at, verdict);
     }
-    text::checked(at, false, 1)
+    let number = name_number(name, record);
+    put_name(out, at, room, name, number, in_capitals(name, Flags::new()))
 }
 
 fn lower(b: u8) -> u8
@@ -169,7 +173,7 @@ fn upper(b: u8) -> u8
     if b'a' <= b && b <= b'z' { b - 32 } else { b }
 }
 
-fn cased(b: u8, lowered: bool) -> u8
+fn byte_in(b: u8, lowered: bool) -> u8
     ensures { λ r. ⌜ r ≡ byteIn lowered b ⌝ }
 {
     if lowered { lower(b) } else { upper(b) }
@@ -181,7 +185,7 @@ fn copy_cased(out: &mut [u8], at: usize, src: &[u8], lowered: bool)
 {
     let mut i = 0;
     while i < src.len() {
-        out[at + i] = cased(src[i], lowered);
+        out[at + i] = byte_in(src[i], lowered);
         i += 1;
     }
 }
@@ -221,10 +225,10 @@ fn put_zone(out: &mut [u8], at: usize, room: usize, zone: &[u8], flags: Flags) -
     requires { ⌜ Room (now out) room ⌝ }
     ensures { λ r. ⌜ ((limit : ℕ) → Ran limit room (event.write (event.put (inCase (zoneCase flags) (now (zone .entry)))) ∷ []) (now (out .entry)) at (now (out .exit)) r) ⌝ }
 {
-    if flags.change {
+    if flags.contains(Flag::ChangeCase) {
         return put_cased(out, at, room, zone, true);
     }
-    if flags.upper {
+    if flags.contains(Flag::UpperCase) {
         return put_cased(out, at, room, zone, false);
     }
     text::put_slice(out, at, room, zone)
@@ -238,28 +242,30 @@ pub fn zone_name(
     piece: Piece,
     zone: &[u8],
 ) -> usize
-    requires { ⌜ Room (now out) room × (65536 ≤ limit) ⌝ }
+    requires { ⌜ Room (now out) room × (longestBuffer ≤ limit) ⌝ }
     ensures { λ r. ⌜ ((«record» : declared.Record) → Ran limit room (specEvents spec.TimeZoneName piece «record» (now (zone .entry))) (now (out .entry)) at (now (out .exit)) r) ⌝ }
 {
-    let checked = text::checked(at, fields::time_zone(zone), 1);
+    let verdict = fields::verdict(fields::time_zone(zone));
+    let judged = text::judged(at, verdict);
     let length = zone.len();
     if length == 0 {
-        return checked;
+        return judged;
     }
     let flags = piece.flags;
-    let next = string_padding(out, checked, room, limit, piece, length);
+    let next = string_padding(out, judged, room, limit, piece, length);
     put_zone(out, next, room, zone, flags)
 }
 
 pub fn plain_zone_name(out: &mut [u8], at: usize, room: usize, limit: usize, zone: &[u8]) -> usize
-    requires { ⌜ Room (now out) room × (65536 ≤ limit) ⌝ }
+    requires { ⌜ Room (now out) room × (longestBuffer ≤ limit) ⌝ }
     ensures { λ r. ⌜ ((«record» : declared.Record) → Ran limit room (specEvents spec.TimeZoneName (plainPiece spec.TimeZoneName) «record» (now (zone .entry))) (now (out .entry)) at (now (out .exit)) r) ⌝ }
 {
-    let checked = text::checked(at, fields::time_zone(zone), 1);
+    let verdict = fields::verdict(fields::time_zone(zone));
+    let judged = text::judged(at, verdict);
     if zone.len() == 0 {
-        return checked;
+        return judged;
     }
-    text::put_slice(out, checked, room, zone)
+    text::put_slice(out, judged, room, zone)
 }
 
 fn fixed_byte(fixed: Fixed) -> u8
@@ -291,7 +297,7 @@ pub fn fixed(
     piece: Piece,
     fixed: Fixed,
 ) -> usize
-    requires { ⌜ Room (now out) room × (65536 ≤ limit) ⌝ }
+    requires { ⌜ Room (now out) room × (longestBuffer ≤ limit) ⌝ }
     ensures { λ r. ⌜ ((«record» : declared.Record) (zone : List ℕ) → Ran limit room (specEvents (spec.Fixed fixed) piece «record» zone) (now (out .entry)) at (now (out .exit)) r) ⌝ }
 {
     let next = string_padding(out, at, room, limit, piece, 1);
@@ -299,7 +305,7 @@ pub fn fixed(
 }
 
 pub fn plain_fixed(out: &mut [u8], at: usize, room: usize, limit: usize, fixed: Fixed) -> usize
-    requires { ⌜ Room (now out) room × (65536 ≤ limit) ⌝ }
+    requires { ⌜ Room (now out) room × (longestBuffer ≤ limit) ⌝ }
     ensures { λ r. ⌜ ((«record» : declared.Record) (zone : List ℕ) → Ran limit room (specEvents (spec.Fixed fixed) (plainPiece (spec.Fixed fixed)) «record» zone) (now (out .entry)) at (now (out .exit)) r) ⌝ }
 {
     put_byte(out, at, room, fixed_byte(fixed))

@@ -22,7 +22,7 @@ loop-holds c = (omega arith, laid-none)
 loop-again : tie.Need-loop-again Inv-loop μ-loop
 loop-again c =
     let a = c .before .before .before .before .before .before .args in
-    (omega arith, laid-through (byteIn (a .lowered)) (a .src .now) (c .before .before .before .loop .inv .1) (c .before .before .loop-test .taken) (c .cased .ensures))
+    (omega arith, laid-through (byteIn (a .lowered)) (a .src .now) (c .before .before .before .loop .inv .1) (c .before .before .loop-test .taken) (c .byte-in .ensures))
 
 returns : tie.Need-returns Inv-loop μ-loop
 returns c = laid-all (c .before .loop .inv .1) (simp length-map (omega arith))

@@ -1,5 +1,6 @@
 -- Each arm is the test of its name.
-use mathlib.Core.Path.{refl}
+use mathlib.Core.Path.{ap}
+use mathlib.Core.Bool.{not}
 use Rattle.rules.specs.declared.Name.{Name}
 use Rattle.name_directive.specs.Named.{capitals}
 use Rattle.name_directive.proofs.LetterLaws.{known}
@@ -21,7 +22,7 @@ returns-3 c = known (λ (n : Name). capitals n (c .before .before .before .args 
 
 returns-4 : tie.Need-returns-4
 unfolding capitals
-returns-4 c = known (λ (n : Name). capitals n (c .before .before .before .before .args .flags)) (c .before .enum-told4 .given .1) refl
+returns-4 c = known (λ (n : Name). capitals n (c .before .before .before .before .args .flags)) (c .before .enum-told4 .given .1) (ap not (c .contains .ensures))
 
 returns-5 : tie.Need-returns-5
 unfolding capitals
@@ -34,5 +35,5 @@ returns-6 c = known (λ (n : Name). capitals n (c .before .before .before .args 
 pub in-capitals-spec : {M : Type 1} → statement M
 in-capitals-spec =
     tie.close (tie.spec (λ c κs. search needs) (λ c. search needs) (λ c. search needs) (λ c. search needs)
-    (λ c. search needs) (λ c. search needs) (λ c. search needs) returns returns-2 returns-3 returns-4 returns-5
-    returns-6)
+    (λ c. search needs) (λ c κs. search needs) (λ c. search needs) (λ c. search needs) returns returns-2 returns-3
+    returns-4 returns-5 returns-6)

@@ -1,28 +1,33 @@
 -- A field out of range stops at once; else the letters.
 use mathlib.Core.Path.{ap, _∙_}
+use native.Mathlib.Omega.{arith}
+use borrow.Author.Needs.{needs}
+use Rattle.text.proofs.JudgedLaws.{verdict-small, verdict-held}
 use Rattle.name_directive.specs.Named.{capitals}
 use Rattle.name_directive.proofs.LetterLaws.{in-range-named}
 use Rattle.name_directive.proofs.RunLaws.{name-failed, plain-named}
-use borrow.Author.Needs.{needs}
 use Rattle.name_directive.proofs.plain_name.Statement.{statement}
 use Rattle.name_directive.proofs.plain_name.Tie as tie
 
-put-name-requires : tie.Need-put-name-requires
-put-name-requires c κs =
-    let s = c .before .before .before .before .before .before .before in
-    (s .pre .0, in-range-named (s .args .name) (s .args .«record») (c .before .before .before .before .before .in-range .ensures) (c .before .before .before .before .if1 .taken) (c .before .before .before .number-of .ensures))
+judged-requires : tie.Need-judged-requires
+judged-requires c κs = omega (arith, c .before .verdict .ensures, verdict-small (c .before .before .in-range .result))
 
 returns : tie.Need-returns
 returns c =
-    let s = c .before .before .before .before .before .before .before .before .before .before in
-    λ zone. plain-named (s .args .name) (s .args .«record») zone (c .before .before .before .before .before .before .before .before .in-range .ensures zone) (c .before .before .before .before .before .before .before .if1 .taken) (c .before .before .before .before .before .before .number-of .ensures) (c .before .before .before .in-capitals .ensures ∙ ap (capitals (s .args .name)) (c .before .before .before .before .new .ensures)) (s .pre .1) (c .before .before .put-name .ensures _)
+    let a = c .before .before .before .before .before .args in
+    λ zone. name-failed (a .name) _ (a .«record») zone (c .before .before .before .in-range .ensures zone) (c .before .before .verdict .ensures) (c .before .if1 .taken) (c .judged .ensures _ _ _)
+
+put-name-requires : tie.Need-put-name-requires
+put-name-requires c κs =
+    let s = c .before .before .before .before .before .before .before .before in
+    (s .pre .0, in-range-named (s .args .name) (s .args .«record») (c .before .before .before .before .before .before .in-range .ensures) (verdict-held _ (c .before .before .before .before .before .verdict .ensures) (c .before .before .before .before .if1 .left)) (c .before .before .before .name-number .ensures))
 
 returns-2 : tie.Need-returns-2
 returns-2 c =
-    let s = c .before .before .before .before in
-    λ zone. name-failed (s .args .name) _ (s .args .«record») zone (c .before .before .in-range .ensures zone) (c .before .if1 .left) (c .checked .ensures _ _ _)
+    let s = c .before .before .before .before .before .before .before .before .before .before .before in
+    λ zone. plain-named (s .args .name) (s .args .«record») zone (c .before .before .before .before .before .before .before .before .before .in-range .ensures zone) (c .before .before .before .before .before .before .before .before .verdict .ensures) (c .before .before .before .before .before .before .before .if1 .left) (c .before .before .before .before .before .before .name-number .ensures) (c .before .before .before .in-capitals .ensures ∙ ap (capitals (s .args .name)) (c .before .before .before .before .new .ensures)) (s .pre .1) (c .before .before .put-name .ensures _)
 
 pub plain-name-spec : {M : Type 1} → statement M
 plain-name-spec =
-    tie.close (tie.spec (λ c κs. search needs) (λ c κs. search needs) (λ c κs. search needs) (λ c κs. search needs)
-    put-name-requires (λ c. search needs) returns (λ c κs. search needs) returns-2)
+    tie.close (tie.spec (λ c κs. search needs) (λ c κs. search needs) judged-requires returns (λ c κs. search needs)
+    (λ c κs. search needs) (λ c κs. search needs) put-name-requires (λ c. search needs) returns-2)

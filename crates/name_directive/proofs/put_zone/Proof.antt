@@ -1,26 +1,27 @@
 -- Each byte in the case that the flags ask for, or the name as it is.
+use mathlib.Core.Path.{sym, _∙_}
+use borrow.Author.Needs.{needs}
 use Rattle.text.proofs.RanLaws.{said}
 use Rattle.name_directive.proofs.CaseLaws.{zone-lowered, zone-raised, zone-same}
-use borrow.Author.Needs.{needs}
 use Rattle.name_directive.proofs.put_zone.Statement.{statement}
 use Rattle.name_directive.proofs.put_zone.Tie as tie
 
 returns : tie.Need-returns
 returns c =
-    let a = c .before .before .before .before .before .before .before .args in
-    λ limit. said (zone-lowered (a .flags) (a .zone .now) (c .before .before .before .before .if1 .taken)) (c .before .before .put-cased .ensures limit)
+    let a = c .before .before .before .before .before .before .before .before .args in
+    λ limit. said (zone-lowered (a .flags) (a .zone .now) (sym (c .before .before .before .before .before .contains .ensures) ∙ c .before .before .before .before .if1 .taken)) (c .before .before .put-cased .ensures limit)
 
 returns-2 : tie.Need-returns-2
 returns-2 c =
-    let a = c .before .before .before .before .before .before .before .before .args in
-    λ limit. said (zone-raised (a .flags) (a .zone .now) (c .before .before .before .before .before .if1 .left) (c .before .before .before .before .if2 .taken)) (c .before .before .put-cased2 .ensures limit)
+    let a = c .before .before .before .before .before .before .before .before .before .before .args in
+    λ limit. said (zone-raised (a .flags) (a .zone .now) (sym (c .before .before .before .before .before .before .before .contains .ensures) ∙ c .before .before .before .before .before .before .if1 .left) (sym (c .before .before .before .before .before .contains2 .ensures) ∙ c .before .before .before .before .if2 .taken)) (c .before .before .put-cased2 .ensures limit)
 
 returns-3 : tie.Need-returns-3
 returns-3 c =
-    let a = c .before .before .before .before .before .before .before .before .args in
-    λ limit. said (zone-same (a .flags) (a .zone .now) (c .before .before .before .before .before .if1 .left) (c .before .before .before .before .if2 .left)) (c .before .before .put-slice .ensures limit)
+    let a = c .before .before .before .before .before .before .before .before .before .before .args in
+    λ limit. said (zone-same (a .flags) (a .zone .now) (sym (c .before .before .before .before .before .before .before .contains .ensures) ∙ c .before .before .before .before .before .before .if1 .left) (sym (c .before .before .before .before .before .contains2 .ensures) ∙ c .before .before .before .before .if2 .left)) (c .before .before .put-slice .ensures limit)
 
 pub put-zone-spec : {M : Type 1} → statement M
 put-zone-spec =
-    tie.close (tie.spec (λ c κs. search needs) (λ c. search needs) returns (λ c κs. search needs) (λ c. search needs)
-    returns-2 (λ c κs. search needs) (λ c. search needs) returns-3)
+    tie.close (tie.spec (λ c κs. search needs) (λ c κs. search needs) (λ c. search needs) returns (λ c κs. search needs)
+    (λ c κs. search needs) (λ c. search needs) returns-2 (λ c κs. search needs) (λ c. search needs) returns-3)

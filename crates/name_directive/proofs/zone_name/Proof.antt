@@ -1,20 +1,23 @@
 -- The check; of a name that is not empty the pad and the letters.
-use Rattle.name_directive.proofs.RunLaws.{zone-empty, zone-named}
+use native.Mathlib.Omega.{arith}
 use borrow.Author.Needs.{needs}
+use Rattle.text.proofs.JudgedLaws.{verdict-small}
+use Rattle.name_directive.proofs.RunLaws.{zone-empty, zone-named}
 use Rattle.name_directive.proofs.zone_name.Statement.{statement}
 use Rattle.name_directive.proofs.zone_name.Tie as tie
 
+judged-requires : tie.Need-judged-requires
+judged-requires c κs = omega (arith, c .verdict .ensures, verdict-small (c .before .time-zone .result))
+
 returns : tie.Need-returns
-returns c =
-    let s = c .before .before .before .before .before in
-    λ r. zone-empty _ r (s .args .zone .now) (c .before .before .time-zone .ensures) (c .if1 .taken) (c .before .checked .ensures _ _ _)
+returns c = λ r. zone-empty _ r (c .before .before .before .before .before .before .args .zone .now) (c .before .before .before .time-zone .ensures) (c .before .before .verdict .ensures) (c .if1 .taken) (c .before .judged .ensures _ _ _)
 
 returns-2 : tie.Need-returns-2
 returns-2 c =
-    let s = c .before .before .before .before .before .before .before .before .before .before .before .before .before .before in
-    λ r. zone-named (s .args .piece) r (s .args .zone .now) (c .before .before .before .before .before .before .before .before .before .before .before .time-zone .ensures) (c .before .before .before .before .before .before .before .before .before .if1 .left) (c .before .before .before .before .before .before .before .before .before .before .checked .ensures _ _ _) (c .before .before .before .before .before .before .string-padding .ensures) (c .before .before .put-zone .ensures _)
+    let s = c .before .before .before .before .before .before .before .before .before .before .before .before .before .before .before in
+    λ r. zone-named (s .args .piece) r (s .args .zone .now) (c .before .before .before .before .before .before .before .before .before .before .before .before .time-zone .ensures) (c .before .before .before .before .before .before .before .before .before .before .before .verdict .ensures) (c .before .before .before .before .before .before .before .before .before .if1 .left) (c .before .before .before .before .before .before .before .before .before .before .judged .ensures _ _ _) (c .before .before .before .before .before .before .string-padding .ensures) (c .before .before .put-zone .ensures _)
 
 pub zone-name-spec : {M : Type 1} → statement M
 zone-name-spec =
-    tie.close (tie.spec (λ c κs. search needs) (λ c κs. search needs) returns (λ c κs. search needs)
+    tie.close (tie.spec (λ c κs. search needs) (λ c κs. search needs) judged-requires returns (λ c κs. search needs)
     (λ c κs. search needs) (λ c. search needs) returns-2)

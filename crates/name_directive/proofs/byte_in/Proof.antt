@@ -1,7 +1,7 @@
 -- The letter in the case that is asked for.
 use borrow.Author.Needs.{needs}
-use Rattle.name_directive.proofs.cased.Statement.{statement}
-use Rattle.name_directive.proofs.cased.Tie as tie
+use Rattle.name_directive.proofs.byte_in.Statement.{statement}
+use Rattle.name_directive.proofs.byte_in.Tie as tie
 
 lower-requires : tie.Need-lower-requires
 lower-requires c κs = search needs
@@ -15,5 +15,5 @@ returns c = rw (c .before .if1 .taken) (c .lower .ensures)
 returns-2 : tie.Need-returns-2
 returns-2 c = rw (c .before .if1 .left) (c .upper .ensures)
 
-pub cased-spec : {M : Type 1} → statement M
-cased-spec = tie.close (tie.spec lower-requires upper-requires returns returns-2)
+pub byte-in-spec : {M : Type 1} → statement M
+byte-in-spec = tie.close (tie.spec lower-requires upper-requires returns returns-2)
