@@ -11,8 +11,7 @@ use borrow.Author.Tests.{eq-eqb, ne-eqb}
 use Rattle.rules.specs.declared.Entry.{Entry}
 use Rattle.rules.specs.declared.Entry.the-variants.{Is, Missing}
 use Rattle.rules.specs.declared.Modifier.{Modifier}
-use Rattle.rules.specs.Reading.{Row, member, modified, lookUp, possibleSpecs, specOf}
-use Rattle.rules.proofs.Tables.{letters}
+use Rattle.rules.specs.Reading.{Row, letters, member, modified, lookUp, possibleSpecs, specOf}
 use Rattle.rules.proofs.MatchLaws.{NoneOf, none-known}
 
 abbrev pub isEntry : Entry → Bool

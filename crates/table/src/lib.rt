@@ -1,7 +1,6 @@
 // Ports the table of directives of mod.rs and its checks of assert.rs, and the letters before which `E` and `O` are skipped.
 ghost use mathlib.Core.Path.{_≡_};
-ghost use Rattle.rules.specs.Reading.{member, modified, possibleSpecs, specOf};
-ghost use Rattle.rules.proofs.Tables.{letters};
+ghost use Rattle.rules.specs.Reading.{letters, member, modified, possibleSpecs, specOf};
 use rules::Combination;
 use rules::Entry;
 use rules::Fixed;
