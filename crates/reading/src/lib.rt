@@ -22,6 +22,7 @@ use rules::Parsed;
 use rules::Piece;
 use rules::Spec;
 use rules::Width;
+use table::is_possible;
 use table::skips;
 use table::spec_of;
 
@@ -190,8 +191,10 @@ fn parse_letter(format: &[u8], options: Options, width: Width, at: usize) -> Par
         _ => {
             if b >= 128 {
                 Parsed::Echo(at)
-            } else {
+            } else if is_possible(b) {
                 enter(spec_of(b), options, width, false, at + 1)
+            } else {
+                Parsed::Echo(at + 1)
             }
         }
     }
