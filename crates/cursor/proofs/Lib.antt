@@ -1,5 +1,4 @@
 pub mod Held
 pub mod Positions
 pub mod Thin
-pub mod UnreadLaws
 pub mod Walks
