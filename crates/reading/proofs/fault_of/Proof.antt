@@ -66,6 +66,6 @@ returns-2 c = fault-last _ _ _ (items-at _ _ .past (c .loop-test .left)) ∙ c .
 
 pub fault-of-spec : {M : Type 1} → statement M
 fault-of-spec =
-    tie.close (tie.spec Inv-loop μ-loop loop-holds (λ c. search needs) (λ c. search needs)
-    (λ c κs. search needs) (λ c. search needs) loop-less loop-again (λ c. search needs) loop-less-2 loop-again-2
-    (λ c. search needs) returns (λ c κs. search needs) loop-less-3 loop-again-3 returns-2)
+    tie.close (tie.spec Inv-loop μ-loop loop-holds (λ c. search needs) (λ c. search needs) (λ c κs. search needs)
+    (λ c. search needs) loop-less loop-again (λ c. search needs) loop-less-2 loop-again-2 (λ c. search needs) returns
+    (λ c κs. search needs) loop-less-3 loop-again-3 returns-2)
