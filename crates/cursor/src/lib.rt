@@ -1,44 +1,12 @@
 // Ports `Cursor` of utils.rs. A function over the struct is proved by hand, so each hands its slice on to one that takes plain slices.
-// The original's `next` and `read_optional_tag` go on behind what they found; here the struct is passed by value, and `advanced` goes on.
+// It is passed by value: `advanced` hands out a cursor where the original moves its own.
 ghost use mathlib.Core.Path.{_≡_};
 ghost use lib.ListN.{drop};
 ghost use Rattle.rules.specs.declared.Reading.the-variants.{InFlags};
 ghost use Rattle.rules.specs.Reading.{outset};
 ghost use Rattle.rules.specs.Format.{parseFrom};
-ghost use Rattle.cursor.specs.Unread.{nextOf, startsWith};
 use reading::parse_spec;
 use rules::Parsed;
-
-pub enum Next {
-    Byte(u8),
-    End,
-}
-
-fn first_of(remaining: &[u8]) -> Next
-    ensures { λ r. ⌜ r ≡ nextOf (now (remaining .entry)) ⌝ }
-{
-    if 0 < remaining.len() {
-        Next::Byte(remaining[0])
-    } else {
-        Next::End
-    }
-}
-
-fn starts_with(remaining: &[u8], tag: &[u8]) -> bool
-    ensures { λ r. ⌜ r ≡ startsWith (now (tag .entry)) (now (remaining .entry)) ⌝ }
-{
-    if remaining.len() < tag.len() {
-        return false;
-    }
-    let mut i = 0;
-    while i < tag.len() {
-        if remaining[i] != tag[i] {
-            return false;
-        }
-        i += 1;
-    }
-    true
-}
 
 // What is left behind `n` bytes: nothing where there are fewer.
 fn tail<'a>(remaining: &'a [u8], n: usize) -> &'a [u8]
@@ -67,24 +35,6 @@ impl<'a> Cursor<'a> {
         ensures { λ r. ⌜ r .remaining ≡ remaining .entry ⌝ }
     {
         Self { remaining }
-    }
-
-    pub fn remaining(self) -> &'a [u8]
-        ensures { λ r. ⌜ r ≡ self .entry .remaining ⌝ }
-    {
-        self.remaining
-    }
-
-    pub fn next(self) -> Next
-        ensures { λ r. ⌜ r ≡ nextOf (now (self .entry .remaining)) ⌝ }
-    {
-        first_of(self.remaining)
-    }
-
-    pub fn read_optional_tag(self, tag: &[u8]) -> bool
-        ensures { λ r. ⌜ r ≡ startsWith (now (tag .entry)) (now (self .entry .remaining)) ⌝ }
-    {
-        starts_with(self.remaining, tag)
     }
 
     // The original's `read_exact`: the cursor behind `n` bytes.

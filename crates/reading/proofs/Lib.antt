@@ -1,4 +1,4 @@
 pub mod ElseBranches
 pub mod Laws
 pub mod Positions
-pub mod Validity
+pub mod Faults

@@ -1,4 +1,4 @@
-// Ports `parse_spec` of mod.rs; with it the end of a run of literal bytes, and whether a whole format is valid.
+// Ports `parse_spec` of mod.rs; with it the end of a run of literal bytes, and what makes a format no valid one.
 ghost use mathlib.Core.Path.{_≡_};
 ghost use mathlib.Core.Bool.{true, false};
 ghost use Prim.Native.Nat.{_+_, _<_, min};
@@ -8,7 +8,7 @@ ghost use Rattle.rules.specs.declared.Width.the-variants.{Unset};
 ghost use Rattle.rules.specs.declared.Reading.the-variants.{InFlags, InWidth, AtModifier, InColons};
 ghost use Rattle.rules.specs.declared.Turn.{Turn};
 ghost use Rattle.rules.specs.Reading.{outset, onFlag, isDigit, widthWith, tooWide, specOf, onEntry, onLetter, turn};
-ghost use Rattle.rules.specs.Format.{parseFrom, valid};
+ghost use Rattle.rules.specs.Format.{fault, items, parseFrom};
 ghost use Rattle.reading.specs.Stages.{flagTurn, entered, colonEntry, turned};
 ghost use Rattle.reading.specs.Literals.{literalEnd};
 use rules::Entry;
@@ -22,6 +22,7 @@ use rules::Parsed;
 use rules::Piece;
 use rules::Spec;
 use rules::Width;
+use table::is_possible;
 use table::skips;
 use table::spec_of;
 
@@ -190,8 +191,10 @@ fn parse_letter(format: &[u8], options: Options, width: Width, at: usize) -> Par
         _ => {
             if b >= 128 {
                 Parsed::Echo(at)
-            } else {
+            } else if is_possible(b) {
                 enter(spec_of(b), options, width, false, at + 1)
+            } else {
+                Parsed::Echo(at + 1)
             }
         }
     }
@@ -278,13 +281,10 @@ pub fn literal_end(format: &[u8], from: usize) -> usize
     at
 }
 
-// Whether a format has at most 4,096 bytes and doesn't end inside a directive.
-pub fn is_valid(format: &[u8]) -> bool
-    ensures { λ r. ⌜ r ≡ valid (now (format .entry)) ⌝ }
+// What makes a format no valid one, by its refusal's number: 2 where it ends inside a directive, 0 where nothing does.
+pub fn fault_of(format: &[u8]) -> usize
+    ensures { λ r. ⌜ r ≡ fault (items (now (format .entry))) ⌝ }
 {
-    if format.len() > 4096 {
-        return false;
-    }
     let mut at = 0;
     while at < format.len() {
         if format[at] == b'%' {
@@ -292,11 +292,11 @@ pub fn is_valid(format: &[u8]) -> bool
             match parsed {
                 Parsed::Directive(_, next) => at = next,
                 Parsed::Echo(next) => at = next,
-                Parsed::Cut => return false,
+                Parsed::Cut => return 2,
             }
         } else {
             at = literal_end(format, at);
         }
     }
-    true
+    0
 }

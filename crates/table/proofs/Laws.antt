@@ -1,21 +1,17 @@
--- The table of directives by its rows: what a look-up finds, and what a search of its letters or of any table answers.
-use mathlib.Core.Path.{_≡_, refl, sym, ap}
-use mathlib.Core.Bool.{Bool, true, false, cond}
+-- The table of directives by its rows: what a look-up finds, and what a search of its letters answers.
+use mathlib.Core.Path.{_≡_, refl, sym, ap, _∙_}
+use mathlib.Core.Bool.{Bool, true, false, cond, false≢true}
 use mathlib.Core.List.{List, [], _∷_}
-use Prim.Native.Nat.{ℕ, _+_, _≤_, _<_}
-use native.Mathlib.Numerals.{add-one}
+use Prim.Native.Nat.{ℕ}
 use lib.Dec.{eqb}
-use lib.ListN.{length, getD, drop, drop-of-length-le}
-use lib.Seq.{drop-cons}
-use borrow.Author.Tests.{eq-eqb, ne-eqb}
+use borrow.Author.Tests.{ne-eqb}
 use Rattle.rules.specs.declared.Entry.{Entry}
 use Rattle.rules.specs.declared.Entry.the-variants.{Is, Missing}
 use Rattle.rules.specs.declared.Modifier.{Modifier}
-use Rattle.rules.specs.Reading.{Row, member, modified, lookUp, possibleSpecs, specOf}
-use Rattle.rules.proofs.Tables.{letters}
+use Rattle.rules.specs.Reading.{Row, letters, member, modified, lookUp, possibleSpecs, specOf}
 use Rattle.rules.proofs.MatchLaws.{NoneOf, none-known}
 
-abbrev pub isEntry : Entry → Bool
+abbrev isEntry : Entry → Bool
 isEntry (Is s) = true
 isEntry Missing = false
 
@@ -29,8 +25,15 @@ searched b (r ∷ rows) = go (eqb b (r .letter)) (searched b rows)
     go false rest = rest
 
 -- a letter is possible exactly if the table has an entry for it
-pub possible-entry : (b : ℕ) → member b (letters possibleSpecs) ≡ isEntry (specOf b)
+possible-entry : (b : ℕ) → member b (letters possibleSpecs) ≡ isEntry (specOf b)
 possible-entry b = searched b possibleSpecs
+
+pub impossible : (b : ℕ) → member b (letters possibleSpecs) ≡ false → specOf b ≡ Missing
+impossible b h = go (specOf b) (sym (possible-entry b) ∙ h)
+  where
+    go : (e : Entry) → isEntry e ≡ false → e ≡ Missing
+    go (Is s) h = absurd (false≢true (sym h))
+    go Missing h = refl
 
 -- what the table has for a byte that is known
 pub row-of : {b k : ℕ} → b ≡ k → specOf k ≡ specOf b
@@ -54,18 +57,3 @@ module _ (b : ℕ) where
   -- the last arm of a match knows that b is none of the letters
   pub no-row : (known : Type 0) → NoneOf b known (letters possibleSpecs) → Missing ≡ specOf b
   no-row = none-of possibleSpecs
-
--- one turn of a search
-module _ (table : List ℕ) (b i : ℕ) where
-  module _ (h : i < length table) where
-    pub member-hit : b ≡ getD table i 0 → true ≡ member b (drop i table)
-    unfolding member
-    member-hit e = rw (drop-cons table i 0, eq-eqb _ _ e)
-
-    pub member-miss : (b ≡ getD table i 0 → ⊥) → member b (drop (i + 1) table) ≡ member b (drop i table)
-    unfolding member
-    member-miss e = rw (add-one, drop-cons table i 0, ne-eqb _ _ e)
-
-  pub member-end : length table ≤ i → false ≡ member b (drop i table)
-  unfolding member
-  member-end h = rw (drop-of-length-le table h)

@@ -1,7 +1,7 @@
 // Ports the table of directives of mod.rs and its checks of assert.rs, and the letters before which `E` and `O` are skipped.
 ghost use mathlib.Core.Path.{_≡_};
-ghost use Rattle.rules.specs.Reading.{member, modified, possibleSpecs, specOf};
-ghost use Rattle.rules.proofs.Tables.{letters};
+ghost use mathlib.Core.Bool.{true};
+ghost use Rattle.rules.specs.Reading.{letters, member, modified, possibleSpecs, rising, specOf};
 use rules::Combination;
 use rules::Entry;
 use rules::Fixed;
@@ -13,22 +13,37 @@ use rules::Offset;
 use rules::Spec;
 
 // The letters of the directives, in order.
-pub const POSSIBLE_SPECS: [u8; 44] = *b"%ABCDFGHILMNPRSTUVWXYZabcdeghjklmnprstuvwxyz";
+const POSSIBLE_SPECS: [u8; 44] = *b"%ABCDFGHILMNPRSTUVWXYZabcdeghjklmnprstuvwxyz";
 
-pub const EXT_E_SPECS: [u8; 6] = *b"CXYcxy";
+const EXT_E_SPECS: [u8; 6] = *b"CXYcxy";
 
-pub const EXT_O_SPECS: [u8; 15] = *b"HIMSUVWdeklmuwy";
+const EXT_O_SPECS: [u8; 15] = *b"HIMSUVWdeklmuwy";
 
-// Whether a byte stands in a table.
-fn is_in(table: &[u8], b: u8) -> bool
+fn possible_specs() -> [u8; 44]
+    ensures letters { λ r. ⌜ r ≡ letters possibleSpecs ⌝ }
+    ensures sorted { λ r. ⌜ rising r ≡ true ⌝ }
+{
+    POSSIBLE_SPECS
+}
+
+// Whether a byte stands in a sorted table, by halves.
+fn is_among(table: &[u8], b: u8) -> bool
+    requires { ⌜ rising (now table) ≡ true ⌝ }
     ensures { λ r. ⌜ r ≡ member b (now (table .entry)) ⌝ }
 {
-    let mut i = 0;
-    while i < table.len() {
-        if b == table[i] {
+    let mut low = 0;
+    let mut high = table.len();
+    while low < high {
+        let middle = low + (high - low) / 2;
+        let letter = table[middle];
+        if letter == b {
             return true;
         }
-        i += 1;
+        if letter < b {
+            low = middle + 1;
+        } else {
+            high = middle;
+        }
     }
     false
 }
@@ -37,8 +52,8 @@ fn is_in(table: &[u8], b: u8) -> bool
 pub fn is_possible(b: u8) -> bool
     ensures { λ r. ⌜ r ≡ member b (letters possibleSpecs) ⌝ }
 {
-    let table = POSSIBLE_SPECS;
-    is_in(&table, b)
+    let table = possible_specs();
+    is_among(&table, b)
 }
 
 // The directive of a letter.
@@ -101,11 +116,11 @@ pub fn skips(modifier: Modifier, b: u8) -> bool
     match modifier {
         Modifier::E => {
             let table = EXT_E_SPECS;
-            is_in(&table, b)
+            is_among(&table, b)
         }
         Modifier::O => {
             let table = EXT_O_SPECS;
-            is_in(&table, b)
+            is_among(&table, b)
         }
     }
 }

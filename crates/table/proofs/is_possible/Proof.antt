@@ -1,20 +1,13 @@
--- The constant table is the list of the table's letters: that is computed.
-use mathlib.Core.Path.{refl, _∙_}
+-- The table that is searched is the list of the rule's letters.
+use mathlib.Core.Path.{_∙_}
 use borrow.Author.Needs.{needs}
-use Rattle.rules.specs.Reading.{possibleSpecs}
 use Rattle.table.proofs.Laws.{of-table}
 use Rattle.table.proofs.is_possible.Statement.{statement}
 use Rattle.table.proofs.is_possible.Tie as tie
 
-slice-aggregate-is-in : tie.Need-slice-aggregate-is-in
-slice-aggregate-is-in c = search needs
-
-is-in-requires : tie.Need-is-in-requires
-is-in-requires c κs = search needs
-
 returns : tie.Need-returns
-unfolding possibleSpecs
-returns c = c .is-in .ensures ∙ of-table _ _ _ refl
+returns c = c .is-among .ensures ∙ of-table _ _ _ (c .before .before .possible-specs .ensures .0)
 
 pub is-possible-spec : {M : Type 1} → statement M
-is-possible-spec = tie.close (tie.spec slice-aggregate-is-in is-in-requires returns)
+is-possible-spec =
+    tie.close (tie.spec (λ c κs. search needs) (λ c. search needs) (λ c κs. search needs) returns)

@@ -8,11 +8,11 @@ use Rattle.table.proofs.skips.Tie as tie
 
 returns : tie.Need-returns
 unfolding modified
-returns c = c .is-in .ensures ∙ of-table _ _ _ refl ∙ of-modifier _ (c .before .before .enum-told .given .1)
+returns c = c .is-among .ensures ∙ of-table _ _ _ refl ∙ of-modifier _ (c .before .before .enum-told .given .1)
 
 returns-2 : tie.Need-returns-2
 unfolding modified
-returns-2 c = c .is-in2 .ensures ∙ of-table _ _ _ refl ∙ of-modifier _ (c .before .before .enum-told2 .given .1)
+returns-2 c = c .is-among2 .ensures ∙ of-table _ _ _ refl ∙ of-modifier _ (c .before .before .enum-told2 .given .1)
 
 pub skips-spec : {M : Type 1} → statement M
 skips-spec =
