@@ -1,5 +1,6 @@
 pub mod DecimalLaws
 pub mod Demands
+pub mod EachItem
 pub mod EdgesHold
 pub mod EventLaws
 pub mod FloorLaws
@@ -14,4 +15,5 @@ pub mod Tables
 pub mod Walk
 pub mod WeekLaws
 pub mod WidthLaws
+pub mod WidthsRead
 pub mod YearLaws
