@@ -6,9 +6,11 @@ pub mod EventLaws
 pub mod FloorLaws
 pub mod FormatLaws
 pub mod Joining
+pub mod LimitLaws
 pub mod MatchLaws
 pub mod OneAnswer
 pub mod OriginalWeek
+pub mod PutsShort
 pub mod RecordLaws
 pub mod Resume
 pub mod Tables

@@ -22,13 +22,8 @@ use Rattle.rules.specs.declared.Turn.the-variants.{More, Found, Echoed, 
 use Rattle.rules.specs.Ascii.{byte}
 use Rattle.rules.specs.Reading.{padded, onFlag, isDigit, tooWide, member, modified, specOf, onEntry, onLetter, onColons, turn, open?}
 use Rattle.rules.specs.Format.{Item, literal, echo, directive, cut, State, between, inside, Step, fresh, onTurn, step, ending, items}
-use Rattle.rules.proofs.RecordLaws.{both, ends}
-use Rattle.rules.proofs.EachItem.{Each, each-member, each-read}
-
--- by the two outcomes of a test, each as an equation
-by-test : {A : Type 0} (P : A → Type 0) (b : Bool) {x y : A} → (b ≡ true → P x) → (b ≡ false → P y) → P (cond b x y)
-by-test P true f g = f refl
-by-test P false f g = g refl
+use Rattle.rules.proofs.RecordLaws.{by-test, ends}
+use Rattle.rules.proofs.EachItem.{AllItems, all-member, all-read}
 
 -- ## One byte, by cases
 
@@ -138,7 +133,7 @@ StateOk between = Unit {0}
 StateOk (inside r text) = ReadingOk r
 
 abbrev StepOk : Step → Type 0
-StepOk s = Each ItemOk (s .settles) × StateOk (s .to)
+StepOk s = AllItems ItemOk (s .settles) × StateOk (s .to)
 
 fresh-ok : (b : ℕ) → StepOk (fresh b)
 fresh-ok b = by-test StepOk (eqb b (byte "%")) (λ t. (tt, tt)) (λ f. ((tt, tt), tt))
@@ -154,7 +149,7 @@ step-ok (inside r text) b h = go (turn r b) (turn-ok r b h)
     go Echoed k = ((tt, tt), tt)
     go Unread k = let f = fresh-ok b in ((tt, f .0), f .1)
 
-end-ok : (state : State) → StateOk state → Each ItemOk (ending state)
+end-ok : (state : State) → StateOk state → AllItems ItemOk (ending state)
 unfolding ending
 end-ok between h = tt
 end-ok (inside r text) h = (by-test ItemOk (open? r) (λ t. tt) (λ f. tt), tt)
@@ -162,4 +157,4 @@ end-ok (inside r text) h = (by-test ItemOk (open? r) (λ t. tt) (λ f. tt), tt)
 -- "A width never starts with 0 and is never 0, since zeros are flags."; "Above 2,147,483,647, however long: echo."
 pub widths-read : (format : List ℕ) (p : Piece) → List·Memᴰ (directive p) (items format) → WidthOk (p .width)
 widths-read format p m =
-    each-member ItemOk (items format) (each-read ItemOk (λ left state. StateOk state) (λ left state b. step-ok state b) end-ok between format tt) m
+    all-member ItemOk (items format) (all-read ItemOk (λ left state. StateOk state) (λ left state b. step-ok state b) end-ok between format tt) m
