@@ -14,6 +14,7 @@ pub mod PutsShort
 pub mod RecordLaws
 pub mod Resume
 pub mod Tables
+pub mod TooWide
 pub mod UnreadFields
 pub mod Walk
 pub mod WeekLaws

@@ -6,7 +6,7 @@ use Prim.Native.Nat.{ℕ, zero, suc, _+_, _-_, _/_, _^_, _≤_, _<_, min}
 use native.Mathlib.Omega.{arith}
 use borrow.Author.Tests.{leb-true}
 use lib.Dec.{ltb, leb, eqb, lit≤, lit<}
-use lib.IntN.{ℤ, pos, negsuc, natAbs}
+use lib.IntN.{ℤ, pos, negsuc}
 use lib.ListN.{length, getD, length-append, length-take}
 use lib.Signed.{mag}
 use Rattle.rules.specs.declared.Record.{Record}
@@ -23,14 +23,14 @@ use Rattle.rules.specs.declared.Piece.{Piece}
 use Rattle.rules.specs.declared.Turn.{Turn}
 use Rattle.rules.specs.declared.Turn.the-variants.{More, Found, Echoed, Unread}
 use Rattle.rules.specs.Ascii.{byte, ascii}
-use Rattle.rules.specs.Record.{longestFormat, longestZone, allOk}
-use Rattle.rules.specs.Event.{Write, put, pad, Event, write, check, judged}
-use Rattle.rules.specs.Decimal.{digits, two, decimalText, Fill, zeros, spaces, filled, floorDiv}
-use Rattle.rules.specs.Name.{dayNames, monthNames, dayName, monthName, abbreviated, Case, inCase, before12, nameOf, caseOf, zoneCase}
+use Rattle.rules.specs.Record.{longestFormat, longestZone}
+use Rattle.rules.specs.Event.{Write, put, pad, Event, write, check}
+use Rattle.rules.specs.Decimal.{digits, decimalText, Fill, zeros, spaces, filled, floorDiv}
+use Rattle.rules.specs.Name.{dayNames, monthNames, dayName, monthName, abbreviated, before12, nameOf, caseOf, zoneCase}
 use Rattle.rules.specs.Week.{isoWeek}
-use Rattle.rules.specs.Offset.{hoursOf, minutesOf, secondsOf, Form, hh, hhmm, hh:mm, hh:mm:ss, partsOf, signOf, signAndPad, offsetWrites}
+use Rattle.rules.specs.Offset.{hoursOf, minutesOf, Form, hh, hhmm, hh:mm, hh:mm:ss, partsOf, signAndPad, offsetWrites}
 use Rattle.rules.specs.Reading.{turn, open?}
-use Rattle.rules.specs.Writing.{orIfZero, valueOf, numberWrites, padTo, nameWrites, fixedByte, zoneWrites, fractionWrites, yearWidth, dayText, combinationText, numberFields, combinationFields, fieldsOf, leadOf, bodyOf, verdict, verdictOf, specEvents, eventsOf}
+use Rattle.rules.specs.Writing.{orIfZero, valueOf, numberWrites, nameWrites, fixedByte, zoneWrites, fractionWrites, yearWidth, dayText, combinationText, numberFields, combinationFields, fieldsOf, leadOf, bodyOf, verdict, verdictOf, specEvents, eventsOf}
 use Rattle.rules.specs.Format.{Item, literal, echo, directive, cut, State, between, inside, Step, fresh, onTurn, step, ending, items, itemEvents, events}
 use Rattle.rules.specs.Size.{Typed}
 use Rattle.rules.proofs.DecimalLaws.{count-le, length-places, length-text-to, length-filled}

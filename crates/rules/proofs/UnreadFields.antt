@@ -1,10 +1,9 @@
 -- What a directive reads of a record and a zone name; the rest of them has no say in the outcome.
-use mathlib.Core.Path.{_≡_, refl, ap, ap₂, _∙_}
-use mathlib.Core.Bool.{Bool, true, false, _&&_}
-use mathlib.Core.List.{List, [], _∷_, _++_, map, flatten, List·Memᴰ, List·Memᴰ·head, List·Memᴰ·tail}
+use mathlib.Core.Path.{_≡_, refl, ap, ap₂}
+use mathlib.Core.Bool.{_&&_}
+use mathlib.Core.List.{List, [], _∷_, _++_, List·Memᴰ, List·Memᴰ·head, List·Memᴰ·tail}
 use Prim.Native.Nat.{ℕ}
 use lib.Dec.{leb}
-use lib.IntN.{ℤ, pos}
 use lib.ListN.{length}
 use Rattle.rules.specs.declared.Record.{Record}
 use Rattle.rules.specs.declared.Flags.{Flags}
@@ -17,12 +16,10 @@ use Rattle.rules.specs.declared.Combination.the-variants.{CombinationDat
 use Rattle.rules.specs.declared.Spec.{Spec}
 use Rattle.rules.specs.declared.Spec.the-variants.{Number as number, Name as name, Fraction as fraction, Offset as offset, TimeZoneName, Fixed as fixed, Combination as combination}
 use Rattle.rules.specs.declared.Piece.{Piece}
-use Rattle.rules.specs.Record.{Field, month, day, hour, minute, second, nanoseconds, weekday, dayOfYear, zoneName, longestFormat, longestZone, longestBuffer, zoneOk, lastDayOf, within, okField, allOk}
-use Rattle.rules.specs.Event.{Write, Event, write, check, judged, Outcome, run}
-use Rattle.rules.specs.Decimal.{floorDiv, floorMod}
+use Rattle.rules.specs.Record.{Field, month, day, hour, minute, second, nanoseconds, weekday, dayOfYear, zoneName, longestZone, zoneOk, lastDayOf, within, okField, allOk}
 use Rattle.rules.specs.Name.{nameOf}
-use Rattle.rules.specs.Writing.{valueOf, combinationLength, combinationText, numberFields, nameFields, combinationFields, fieldsOf, leadOf, bodyOf, verdict, verdictOf, specEvents, eventsOf}
-use Rattle.rules.specs.Format.{Item, literal, echo, directive, cut, items, itemEvents, events, limitOf, formatEvents, formatted}
+use Rattle.rules.specs.Writing.{valueOf, combinationLength, combinationText, numberFields, nameFields, combinationFields, fieldsOf, leadOf, bodyOf, verdictOf, specEvents, eventsOf}
+use Rattle.rules.specs.Format.{Item, literal, echo, directive, cut, items, itemEvents, events, formatEvents, formatted}
 
 -- ## What a directive reads
 

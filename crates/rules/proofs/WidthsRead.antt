@@ -1,10 +1,10 @@
 -- The widths that reading gives (01, "Reading a directive", 2).
 use mathlib.Core.Path.{_≡_, refl, subst}
-use mathlib.Core.Bool.{Bool, true, false, cond}
-use mathlib.Core.List.{List, [], _∷_, List·Memᴰ}
+use mathlib.Core.Bool.{Bool, true, false}
+use mathlib.Core.List.{List, List·Memᴰ}
 use Prim.Native.Nat.{ℕ, _≤_}
 use native.Mathlib.Omega.{arith}
-use borrow.Author.Tests.{ltb-false, leb-true, eqb-false}
+use borrow.Author.Tests.{ltb-false, eqb-false}
 use lib.Dec.{leb, eqb}
 use Rattle.rules.specs.declared.Options.{Options}
 use Rattle.rules.specs.declared.Width.{Width}
@@ -154,7 +154,7 @@ unfolding ending
 end-ok between h = tt
 end-ok (inside r text) h = (by-test ItemOk (open? r) (λ t. tt) (λ f. tt), tt)
 
--- "A width never starts with 0 and is never 0, since zeros are flags."; "Above 2,147,483,647, however long: echo."
+-- "A width never starts with 0 and is never 0, since zeros are flags." Nor is it above 2,147,483,647
 pub widths-read : (format : List ℕ) (p : Piece) → List·Memᴰ (directive p) (items format) → WidthOk (p .width)
 widths-read format p m =
     all-member ItemOk (items format) (all-read ItemOk (λ left state. StateOk state) (λ left state b. step-ok state b) end-ok between format tt) m
