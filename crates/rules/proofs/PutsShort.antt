@@ -47,7 +47,7 @@ abbrev pub Short : Write → Type 0
 Short (put bytes) = length bytes ≤ longestPut
 Short (pad byte count) = Unit {0}
 
--- each write that is reached: the checks before it have passed
+-- each put that is reached is short: a write counts only where the checks before it have passed
 unfoldable pub ReachedShort : List Event → Type 0
 ReachedShort [] = Unit {0}
 ReachedShort (write w ∷ es) = Short w × ReachedShort es
@@ -295,5 +295,6 @@ module _ (r : Record) (typed : Typed r) where
     items-short [] h = tt
     items-short (i ∷ is) h = reached-join (itemEvents (eventsOf r zone) i) (events (eventsOf r zone) is) (item-short i (h .0)) (items-short is (h .1))
 
+    -- no put that is reached has more than 65,535 bytes
     pub puts-short : (format : List ℕ) → length format ≤ longestFormat → ReachedShort (events (eventsOf r zone) (items format))
     puts-short format h = items-short (items format) (echoes-short longestFormat format h)

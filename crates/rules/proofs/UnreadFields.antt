@@ -78,7 +78,7 @@ module _ (r r′ : Record) (zone zone′ : List ℕ) where
   SameFree utc-offset = r .«utc_offset» ≡ r′ .«utc_offset»
   SameFree is-utc = r .«is_utc» ≡ r′ .«is_utc»
 
-  -- the day of the year goes with the last that there is
+  -- the same value. A day of the year is checked against `lastDayOf` its year, so that is the same too
   abbrev pub SameField : Field → Type 0
   SameField month = r .month ≡ r′ .month
   SameField day = r .day ≡ r′ .day
