@@ -1,6 +1,6 @@
 -- What a check of fields that passes says of each, and that every check of a record in range passes.
 use mathlib.Core.Path.{_≡_, refl}
-use mathlib.Core.Bool.{Bool, true, false, _&&_}
+use mathlib.Core.Bool.{Bool, true, false, cond, _&&_}
 use mathlib.Core.List.{List, [], _∷_}
 use Prim.Native.Nat.{ℕ, _≤_}
 use lib.Dec.{T}
@@ -9,6 +9,11 @@ use Rattle.rules.specs.declared.Record.{Record}
 use Rattle.rules.specs.Record.{Field, month, day, hour, minute, second, nanoseconds, weekday, dayOfYear, zoneName, within, okField, allOk, InRange}
 
 -- ## Tests
+
+-- by the two outcomes of a test, each as an equation
+pub by-test : {A : Type 0} (P : A → Type 0) (b : Bool) {x y : A} → (b ≡ true → P x) → (b ≡ false → P y) → P (cond b x y)
+by-test P true f g = f refl
+by-test P false f g = g refl
 
 pub both : (a b : Bool) → (a && b) ≡ true → (a ≡ true) × (b ≡ true)
 both true b h = (refl, h)
