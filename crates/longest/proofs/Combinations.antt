@@ -55,6 +55,6 @@ module _ (r : Record) where
   length-ranged CombinationHourMinute24h f h = simp (length-append, length-two)
   length-ranged CombinationTime24h f h = simp (length-append, length-two)
 
-  -- "with the length of their whole text (it depends on the year alone)": where the fields that they check are in range
+  -- "the length of their whole text (it depends on the year alone)"
   pub combination-length : (zone : List ℕ) (c : Combination) (f : Flags) → allOk (combinationFields c) r zone ≡ true → length (combinationText c f r) ≡ combinationLength c (r .year)
   combination-length zone c f h = length-ranged c f (ranges-of (combinationFields c) r zone h)
