@@ -6,7 +6,7 @@ use mathlib.Core.Logic.{_⊎_, inl, inr}
 use Prim.Native.Nat.{ℕ, _+_, _≤_}
 use native.Mathlib.Omega.{arith}
 use Rattle.rules.specs.declared.Piece.{Piece}
-use Rattle.rules.specs.Event.{Event, write, check, sizeOf, textOf, lengthOf, Count, at, no, one, tally, done, refused, outcomeOf, run, Holds}
+use Rattle.rules.specs.Event.{Event, write, check, writeLength, textOf, lengthOf, Count, at, no, one, tally, done, refused, outcomeOf, run, Holds}
 use Rattle.rules.specs.Format.{Item, literal, echo, directive, cut, itemEvents, events}
 use Rattle.rules.proofs.EventLaws.{write-fits}
 use Rattle.longest.proofs.Fitting.{Ends, ends-no}
@@ -44,15 +44,15 @@ module _ (limit room : ℕ) where
   unfolding tally one lengthOf Holds
   tally-beside n both-end h r l = tt
   tally-beside {Allowed} n (same {e = write w} {xs} m) h r l =
-      rw (write-fits limit room w n (omega arith) (omega arith)) (tally-beside (n + sizeOf w) m h (omega arith) (omega arith))
+      rw (write-fits limit room w n (omega arith) (omega arith)) (tally-beside (n + writeLength w) m h (omega arith) (omega arith))
   tally-beside n (same {e = check true number} m) h r l = tally-beside n m (h .1) r l
   tally-beside n (same {e = check false number} m) h r l = let z : _≡_ {A = ℕ} 0 1 = cc (h .0) in absurd (omega arith)
   tally-beside {Allowed} n (fails {number} {xs} a) h r l = ends-no limit room Allowed xs number n a
 
-  pub run-beside : (number : ℕ) {xs ys : List Event} → Beside (λ k. k ≡ number) xs ys → Holds ys → lengthOf ys ≤ room → lengthOf ys ≤ limit → (run limit room xs ≡ done (textOf xs)) ⊎ (run limit room xs ≡ refused number)
+  pub run-beside : {Allowed : ℕ → Type 0} {xs ys : List Event} → Beside Allowed xs ys → Holds ys → lengthOf ys ≤ room → lengthOf ys ≤ limit → (run limit room xs ≡ done (textOf xs)) ⊎ ((number : ℕ) × (Allowed number × (run limit room xs ≡ refused number)))
   unfolding run
-  run-beside number {xs} m h r l = go (tally limit room xs (at 0)) (tally-beside 0 m h (omega arith) (omega arith))
+  run-beside {Allowed} {xs} m h r l = go (tally limit room xs (at 0)) (tally-beside 0 m h (omega arith) (omega arith))
     where
-      go : (c : Count) → Ends (λ k. k ≡ number) c → (outcomeOf c (textOf xs) ≡ done (textOf xs)) ⊎ (outcomeOf c (textOf xs) ≡ refused number)
+      go : (c : Count) → Ends Allowed c → (outcomeOf c (textOf xs) ≡ done (textOf xs)) ⊎ ((number : ℕ) × (Allowed number × (outcomeOf c (textOf xs) ≡ refused number)))
       go (at n) e = inl refl
-      go (no k n) e = inr (rw e)
+      go (no number n) e = inr (number, (e, refl))

@@ -1,5 +1,6 @@
 -- The text of a combination has the length that it is padded by, where the fields that it checks are in range.
 use mathlib.Core.Path.{_≡_, refl, _∙_}
+use mathlib.Core.Bool.{true}
 use mathlib.Core.List.{List, flatten}
 use Prim.Native.Nat.{ℕ, _≤_}
 use native.Mathlib.Omega.{arith}
@@ -11,13 +12,13 @@ use Rattle.rules.specs.declared.Flags.{Flags}
 use Rattle.rules.specs.declared.Combination.{Combination}
 use Rattle.rules.specs.declared.Combination.the-variants.{CombinationDateTime, CombinationDate, CombinationIso8601, CombinationVmsDate, CombinationTime12h, CombinationHourMinute24h, CombinationTime24h}
 use Rattle.rules.specs.Ascii.{ascii}
-use Rattle.rules.specs.Record.{month, day, weekday, InRange}
+use Rattle.rules.specs.Record.{month, day, weekday, allOk}
 use Rattle.rules.specs.Decimal.{two, spaces}
 use Rattle.rules.specs.Name.{dayName, monthName, abbreviated, Case, inCase, before12}
 use Rattle.rules.specs.Writing.{dayText, combinationLength, combinationText, combinationFields}
 use Rattle.rules.proofs.EventLaws.{splitOn}
 use Rattle.rules.proofs.DecimalLaws.{length-places, length-filled, count-le, length-text-pos}
-use Rattle.rules.proofs.RecordLaws.{Within, Each, ranges-of, all-ok}
+use Rattle.rules.proofs.RecordLaws.{Within, Each, ranges-of}
 use Rattle.rules.proofs.WidthLaws.{length-cased}
 use Rattle.longest.proofs.NameTables.{month-letters, day-letters}
 
@@ -55,5 +56,5 @@ module _ (r : Record) where
   length-ranged CombinationTime24h f h = simp (length-append, length-two)
 
   -- "the length of their whole text (it depends on the year alone)"
-  pub combination-length : (zone : List ℕ) (c : Combination) (f : Flags) → InRange r zone → length (combinationText c f r) ≡ combinationLength c (r .year)
-  combination-length zone c f h = length-ranged c f (ranges-of (combinationFields c) r zone (all-ok r zone h (combinationFields c)))
+  pub combination-length : (zone : List ℕ) (c : Combination) (f : Flags) → allOk (combinationFields c) r zone ≡ true → length (combinationText c f r) ≡ combinationLength c (r .year)
+  combination-length zone c f h = length-ranged c f (ranges-of (combinationFields c) r zone h)

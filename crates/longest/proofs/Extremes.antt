@@ -1,6 +1,5 @@
 -- The greatest length, once for any set of records: two members that between them are above all others give its exact size.
 use mathlib.Core.Path.{_≡_, sym, _∙_}
-use mathlib.Core.Bool.{true}
 use mathlib.Core.List.{List}
 use mathlib.Core.Logic.{_⊎_, inl, inr}
 use Prim.Native.Nat.{ℕ, _≤_, _<_}
@@ -11,8 +10,8 @@ use Rattle.rules.specs.declared.Record.{Record}
 use Rattle.rules.specs.declared.Piece.{Piece}
 use Rattle.rules.specs.Record.{longestBuffer}
 use Rattle.rules.specs.Writing.{eventsOf}
-use Rattle.rules.specs.Format.{items, whole, limitOf}
-use Rattle.rules.specs.Size.{Stamps, SizeIs, NoneServes, Kept}
+use Rattle.rules.specs.Format.{items, fault, limitOf}
+use Rattle.rules.specs.Size.{Stamps, Excused, SizeIs, NoneServes, Kept}
 use Rattle.rules.proofs.EventLaws.{run-done}
 use Rattle.longest.specs.Witness.{Stamp, lengthAt, greater}
 use Rattle.longest.proofs.Beside.{Beside, events-beside, run-beside}
@@ -25,13 +24,13 @@ pub record Extremes (Some : Stamps) (a b : Stamp) : Type 0 where
   pub b-in : Some (b .time) (b .zone)
   pub below : (r : Record) (zone : List ℕ) → Some r zone → Below (extentOf r zone) (extentOf (a .time) (a .zone)) ⊎ Below (extentOf r zone) (extentOf (b .time) (b .zone))
 
--- a member of Some whose events a record has, up to a check that fails with 1
+-- a member of Some whose events a record has, up to a check that fails with an excuse
 pub record Twin (Some : Stamps) (r : Record) (zone : List ℕ) : Type 0 where
   pub twin : Stamp
   pub twin-in : Some (twin .time) (twin .zone)
-  pub beside : (p : Piece) → Beside (λ number. number ≡ 1) (eventsOf r zone p) (eventsOf (twin .time) (twin .zone) p)
+  pub beside : (p : Piece) → Beside Excused (eventsOf r zone p) (eventsOf (twin .time) (twin .zone) p)
 
-module _ {longest : ℕ} {Every Some : Stamps} (sets : Sets longest Every Some) (format : List ℕ) (kept : Kept format longest) (valid : whole (items format) ≡ true) {a b : Stamp} (x : Extremes Some a b) where
+module _ {longest : ℕ} {Every Some : Stamps} (sets : Sets longest Every Some) (format : List ℕ) (kept : Kept format longest) (no-fault : fault (items format) ≡ 0) {a b : Stamp} (x : Extremes Some a b) where
   pub greatest : (s : Stamp) → Some (s .time) (s .zone) → lengthAt s format ≤ greater a b format
   unfolding greater
   greatest s h =
@@ -52,13 +51,13 @@ module _ {longest : ℕ} {Every Some : Stamps} (sets : Sets longest Every Some) 
             let t : Twin Some r zone = twins r zone h in
             let g : lengthAt (t .twin) format ≤ greater a b format = greatest (t .twin) (t .twin-in) in
             rw (every-runs sets format kept r zone h (greater a b format) l)
-            (run-beside (limitOf (length format)) (greater a b format) 1 (events-beside _ _ (t .beside) (items format)) (member-holds sets format kept valid (t .twin) (t .twin-in)) g
+            (run-beside (limitOf (length format)) (greater a b format) (events-beside _ _ (t .beside) (items format)) (member-holds sets format kept no-fault (t .twin) (t .twin-in)) g
             (within-limit (t .twin) format (omega arith)));
         one = m .0 .time;
         one-zone = m .0 .zone;
         one-in = m .1;
-        one-fits = member-fits sets format kept valid (m .0) (m .1) (greater a b format) l (omega arith);
-        one-needs = λ room h. member-short sets format kept valid (m .0) (m .1) room (omega arith) (omega arith);
+        one-fits = member-fits sets format kept no-fault (m .0) (m .1) (greater a b format) l (omega arith);
+        one-needs = λ room h. member-short sets format kept no-fault (m .0) (m .1) room (omega arith) (omega arith);
       }
 
   pub none-serves-greater : longestBuffer < greater a b format → NoneServes Some format

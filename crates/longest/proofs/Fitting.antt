@@ -5,7 +5,7 @@ use mathlib.Core.List.{List, [], _∷_}
 use mathlib.Core.Logic.{_⊎_, inl, inr}
 use Prim.Native.Nat.{ℕ, _+_, _≤_, _<_}
 use native.Mathlib.Omega.{arith}
-use Rattle.rules.specs.Event.{Event, write, check, sizeOf, textOf, lengthOf, Count, at, no, one, tally, done, refused, outcomeOf, run, Holds}
+use Rattle.rules.specs.Event.{Event, write, check, writeLength, textOf, lengthOf, Count, at, no, one, tally, done, refused, outcomeOf, run, Holds}
 use Rattle.rules.proofs.EventLaws.{tally-no, tally-fits, write-cases}
 
 -- how a count ends: with the text, or with an allowed refusal
@@ -22,7 +22,7 @@ module _ (limit room : ℕ) where
   tally-short [] n h r s l = absurd (omega arith)
   tally-short (write w ∷ es) n h r s l =
       write-cases limit room (λ c. tally limit room es c ≡ no 4 room) w n
-      (λ fit. tally-short es (n + sizeOf w) h fit (omega arith) (omega arith)) (λ short. tally-no limit room es 4 room) (λ far. absurd (omega arith))
+      (λ fit. tally-short es (n + writeLength w) h fit (omega arith) (omega arith)) (λ short. tally-no limit room es 4 room) (λ far. absurd (omega arith))
   tally-short (check true number ∷ es) n h r s l = tally-short es n (h .1) r s l
   tally-short (check false number ∷ es) n h r s l = let z : _≡_ {A = ℕ} 0 1 = cc (h .0) in absurd (omega arith)
 
@@ -33,7 +33,7 @@ module _ (limit room : ℕ) where
   unfolding tally one Holds
   tally-ends [] n h = tt
   tally-ends (write w ∷ es) n h =
-      write-cases limit room (λ c. Ends ThreeOrFour (tally limit room es c)) w n (λ fit. tally-ends es (n + sizeOf w) h)
+      write-cases limit room (λ c. Ends ThreeOrFour (tally limit room es c)) w n (λ fit. tally-ends es (n + writeLength w) h)
       (λ short. ends-no ThreeOrFour es 4 room (inr refl)) (λ far. ends-no ThreeOrFour es 3 n (inl refl))
   tally-ends (check true number ∷ es) n h = tally-ends es n (h .1)
   tally-ends (check false number ∷ es) n h = let z : _≡_ {A = ℕ} 0 1 = cc (h .0) in absurd (omega arith)
@@ -47,10 +47,10 @@ module _ (limit room : ℕ) where
   unfolding run
   run-short es h s l = rw (tally-short es 0 h (omega arith) (omega arith) (omega arith))
 
-  pub run-unchecked : (es : List Event) → Holds es → run limit room es ≡ refused 1 → ⊥
+  pub run-unchecked : (es : List Event) (number : ℕ) → Holds es → run limit room es ≡ refused number → ThreeOrFour number
   unfolding run
-  run-unchecked es h e = go (tally limit room es (at 0)) (tally-ends es 0 h) e
+  run-unchecked es number h e = go (tally limit room es (at 0)) (tally-ends es 0 h) e
     where
-      go : (c : Count) → Ends ThreeOrFour c → outcomeOf c (textOf es) ≡ refused 1 → ⊥
+      go : (c : Count) → Ends ThreeOrFour c → outcomeOf c (textOf es) ≡ refused number → ThreeOrFour number
       go (at n) k q = let z : _≡_ {A = ℕ} 0 1 = cc in absurd (omega arith)
-      go (no number n) k q = let e : number ≡ 1 = cc in elim k [ inl a ↦ absurd (omega arith) | inr a ↦ absurd (omega arith) ]
+      go (no found n) k q = let e : found ≡ number = cc in rw e at k

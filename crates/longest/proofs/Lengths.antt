@@ -12,15 +12,16 @@ use Rattle.rules.specs.declared.Combination.the-variants.{CombinationDateTime, 
 use Rattle.rules.specs.declared.Spec.{Spec}
 use Rattle.rules.specs.declared.Spec.the-variants.{Number as number, Name as name, Fraction as fraction, Offset as offset, TimeZoneName, Fixed as fixed, Combination as combination}
 use Rattle.rules.specs.declared.Piece.{Piece}
-use Rattle.rules.specs.Record.{allOk, InRange}
-use Rattle.rules.specs.Event.{Write, put, write, check, sizeOf, lengthOf}
+use Rattle.rules.specs.Record.{InRange}
+use Rattle.rules.specs.Event.{Write, put, write, judged, writeLength, lengthOf}
 use Rattle.rules.specs.Decimal.{digits, decimalText, Fill, zeros, spaces}
 use Rattle.rules.specs.Name.{inCase, caseOf, zoneCase, nameOf}
 use Rattle.rules.specs.Offset.{Form, hh, hhmm, hh:mm, hh:mm:ss, hoursOf, minutesOf, extra, lengthOfForm, partsOf, signAndPad, offsetWrites}
-use Rattle.rules.specs.Writing.{widthOr, valueOf, defaultWidth, numberWrites, padTo, nameWrites, fixedByte, zoneWrites, fractionWrites, fractionDigits, combinationLength, fieldsOf, leadOf, bodyOf, specEvents, eventsOf}
+use Rattle.rules.specs.Writing.{widthOr, valueOf, defaultWidth, numberWrites, padTo, nameWrites, fixedByte, zoneWrites, fractionWrites, fractionDigits, combinationLength, combinationFields, leadOf, bodyOf, verdictOf, specEvents, eventsOf}
 use Rattle.rules.specs.Format.{Item, literal, echo, directive, cut, itemEvents, events}
 use Rattle.rules.proofs.EventLaws.{length-join}
 use Rattle.rules.proofs.DecimalLaws.{length-places, length-filled}
+use Rattle.rules.proofs.RecordLaws.{all-ok}
 use Rattle.rules.proofs.WidthLaws.{length-cased}
 use Rattle.longest.proofs.Combinations.{combination-length}
 use Rattle.longest.proofs.Measure.{extentOf, numberLength, nameLength, zoneLength, combinationSize, specLength, itemLength, totalLength}
@@ -34,12 +35,12 @@ writes-join [] ys = omega arith
 writes-join (w ∷ xs) ys = omega (arith, writes-join xs ys)
 
 length-number : (left : Bool) (fill : Fill) (width : ℕ) (value : ℤ) → writesLength (numberWrites left fill width value) ≡ numberLength left width (length (decimalText value))
-unfolding numberWrites numberLength lengthOf sizeOf
+unfolding numberWrites numberLength lengthOf writeLength
 length-number true fill width value = omega arith
 length-number false fill width value = omega (arith, length-filled fill (min width 65535) value)
 
 length-name : (p : Piece) (text : List ℕ) → writesLength (nameWrites p text) ≡ nameLength (p .flags .left) (widthOr (p .width) 0) (length text)
-unfolding nameWrites nameLength lengthOf sizeOf
+unfolding nameWrites nameLength lengthOf writeLength
 length-name p text = go (p .flags .left)
   where
     go : (left : Bool) → writesLength (cond left [] (padTo p (length text) ∷ []) ++ (put text ∷ [])) ≡ nameLength left (widthOr (p .width) 0) (length text)
@@ -47,7 +48,7 @@ length-name p text = go (p .flags .left)
     go false = omega arith
 
 length-fraction : (width nanos : ℕ) → writesLength (fractionWrites width nanos) ≡ width
-unfolding fractionWrites lengthOf sizeOf
+unfolding fractionWrites lengthOf writeLength
 length-fraction width nanos = omega (arith, length-places (min width 9) (nanos / 10 ^ (9 - width)))
 
 length-zone : (p : Piece) (zone : List ℕ) → writesLength (zoneWrites p zone) ≡ zoneLength (p .flags .left) (widthOr (p .width) 0) (length zone)
@@ -63,7 +64,7 @@ length-parts hh:mm z = omega (arith, length-places 2 (minutesOf z))
 length-parts hh:mm:ss z = simp (length-append, length-places)
 
 length-sign : (fill : Fill) (negative : Bool) (count : ℕ) → writesLength (signAndPad fill negative count) ≡ count + 1
-unfolding signAndPad lengthOf sizeOf
+unfolding signAndPad lengthOf writeLength
 length-sign zeros true count = omega arith
 length-sign zeros false count = omega arith
 length-sign spaces true count = omega arith
@@ -74,7 +75,7 @@ length-offset : (form : Form) (fill : Fill) (width : ℕ) (negative : Bool) (z :
 unfolding offsetWrites
 length-offset form fill width negative z =
     writes-join (signAndPad fill negative (width - lengthOfForm form + extra negative (hoursOf z))) (put (digits (hoursOf z) ++ partsOf form z) ∷ [])
-    ∙ unfold lengthOf sizeOf in
+    ∙ unfold lengthOf writeLength in
     omega
     (arith, length-sign fill negative (width - lengthOfForm form + extra negative (hoursOf z)), length-append (digits (hoursOf z)) (partsOf form z), length-parts form z)
 
@@ -101,18 +102,18 @@ module _ (r : Record) (zone : List ℕ) (h : InRange r zone) where
   length-spec TimeZoneName p = none-first (length-zone p zone)
   length-spec (fixed f) p = none-first (length-name p (fixedByte f ∷ []))
   length-spec (combination c) p =
-      unfold sizeOf in omega (arith, combination-length r zone c (p .flags) h, length-combination c r zone)
+      unfold writeLength in omega (arith, combination-length r zone c (p .flags) (all-ok r zone h (combinationFields c)), length-combination c r zone)
 
   length-piece : (p : Piece) → lengthOf (eventsOf r zone p) ≡ specLength (p .spec) p (extentOf r zone)
   unfolding eventsOf specEvents
   length-piece p =
-      length-join (map write (leadOf (p .spec) p (r .year))) (check (allOk (fieldsOf (p .spec)) r zone) 1 ∷ map write (bodyOf (p .spec) p r zone))
+      length-join (map write (leadOf (p .spec) p (r .year))) (judged (verdictOf (p .spec) r zone) ∷ map write (bodyOf (p .spec) p r zone))
       ∙ unfold lengthOf in length-spec (p .spec) p
 
   length-item : (i : Item) → lengthOf (itemEvents (eventsOf r zone) i) ≡ itemLength i (extentOf r zone)
   unfolding itemEvents itemLength
-  length-item (literal b) = unfold lengthOf sizeOf in refl
-  length-item (echo text) = unfold lengthOf sizeOf in omega arith
+  length-item (literal b) = unfold lengthOf writeLength in refl
+  length-item (echo text) = unfold lengthOf writeLength in omega arith
   length-item (directive p) = length-piece p
   length-item cut = unfold lengthOf in refl
 

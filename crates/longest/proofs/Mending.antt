@@ -1,10 +1,14 @@
 -- A record with fields out of range has a twin in range: every event is the same, up to a check that fails.
-use mathlib.Core.Path.{_≡_, refl, ap}
+use mathlib.Core.Path.{_≡_, refl}
 use mathlib.Core.Bool.{Bool, true, false, cond}
-use mathlib.Core.List.{List, _∷_, map}
-use Prim.Native.Nat.{ℕ, zero, suc}
-use lib.Dec.{T, leb}
+use mathlib.Core.List.{List, map}
+use mathlib.Core.Logic.{inl, inr}
+use Prim.Native.Nat.{ℕ, zero, suc, _≤_}
+use native.Mathlib.Omega.{arith}
+use borrow.Author.Tests.{le-leb}
+use lib.Dec.{T, leb, eqb·suc-zero, lit≤}
 use lib.ListN.{length, replicate, length-replicate}
+use lib.IntN.{ℤ}
 use Rattle.rules.specs.declared.Record.{Record}
 use Rattle.rules.specs.declared.Flags.{Flags}
 use Rattle.rules.specs.declared.Number.{Number}
@@ -17,33 +21,31 @@ use Rattle.rules.specs.declared.Spec.{Spec}
 use Rattle.rules.specs.declared.Spec.the-variants.{Number as number, Name as name, Fraction as fraction, Offset as offset, TimeZoneName, Fixed as fixed, Combination as combination}
 use Rattle.rules.specs.declared.Piece.{Piece}
 use Rattle.rules.specs.Ascii.{byte}
-use Rattle.rules.specs.Record.{month, day, hour, minute, second, nanoseconds, weekday, dayOfYear, zoneName, within, zoneOk, okField, allOk, InRange}
-use Rattle.rules.specs.Event.{Event, write, check}
+use Rattle.rules.specs.Record.{month, day, hour, minute, second, nanoseconds, weekday, dayOfYear, zoneName, recordOf, lastDayOf, within, zoneOk, okField, InRange}
+use Rattle.rules.specs.Event.{write}
 use Rattle.rules.specs.Name.{nameOf}
 use Rattle.rules.specs.Writing.{valueOf, combinationText, numberFields, nameFields, combinationFields, fieldsOf, leadOf, bodyOf, specEvents, eventsOf}
-use Rattle.rules.proofs.RecordLaws.{Passed, passed, all-ok}
+use Rattle.rules.specs.Size.{Excused}
+use Rattle.rules.proofs.RecordLaws.{Passed}
 use Rattle.longest.specs.Witness.{Stamp}
 use Rattle.longest.proofs.Beside.{Beside, fails, beside-self, beside-join}
+use Rattle.longest.proofs.Checks.{check-cases, check-passes}
 
 -- each field as it is, or else one in range
 unfoldable pub mend : Record → List ℕ → Stamp
 mend r zone =
     record {
       time =
-          record {
-            year = r .year;
-            month = cond (okField month r zone) (r .month) 1;
-            day = cond (okField day r zone) (r .day) 1;
-            hour = cond (okField hour r zone) (r .hour) 0;
-            minute = cond (okField minute r zone) (r .minute) 0;
-            second = cond (okField second r zone) (r .second) 0;
-            nanoseconds = cond (okField nanoseconds r zone) (r .nanoseconds) 0;
-            «day_of_week» = cond (okField weekday r zone) (r .«day_of_week») 0;
-            «day_of_year» = cond (okField dayOfYear r zone) (r .«day_of_year») 1;
-            «to_int» = r .«to_int»;
-            «is_utc» = r .«is_utc»;
-            «utc_offset» = r .«utc_offset»;
-          };
+          recordOf (r .year)
+          (cond (okField month r zone) (r .month) 1)
+          (cond (okField day r zone) (r .day) 1)
+          (cond (okField hour r zone) (r .hour) 0)
+          (cond (okField minute r zone) (r .minute) 0)
+          (cond (okField second r zone) (r .second) 0)
+          (cond (okField nanoseconds r zone) (r .nanoseconds) 0)
+          (cond (okField weekday r zone) (r .«day_of_week») 0)
+          (cond (okField dayOfYear r zone) (r .«day_of_year») 1)
+          (r .«to_int») (r .«is_utc») (r .«utc_offset»);
       zone = cond (okField zoneName r zone) zone (replicate (length zone) (byte "A"));
     }
 
@@ -59,6 +61,13 @@ unfolding zoneOk
 letters-ok zero = tt
 letters-ok (suc n) = letters-ok n
 
+year-long : (year : ℤ) → 365 ≤ lastDayOf year
+year-long year = lit≤ tt
+
+-- a day that every year has
+pub day-ok : (year : ℤ) (n : ℕ) → 1 ≤ n → n ≤ 365 → T (within 1 (lastDayOf year) n)
+day-ok year n h l = rw (le-leb 1 n h, le-leb n (lastDayOf year) (omega (arith, year-long year))) tt
+
 pub mend-in-range : (r : Record) (zone : List ℕ) → InRange (mend r zone .time) (mend r zone .zone)
 unfolding mend okField
 mend-in-range r zone month = repaired (within 1 12) (r .month) 1 tt
@@ -68,7 +77,7 @@ mend-in-range r zone minute = repaired (λ n. leb n 59) (r .minute) 0 tt
 mend-in-range r zone second = repaired (λ n. leb n 60) (r .second) 0 tt
 mend-in-range r zone nanoseconds = repaired (λ n. leb n 999999999) (r .nanoseconds) 0 tt
 mend-in-range r zone weekday = repaired (λ n. leb n 6) (r .«day_of_week») 0 tt
-mend-in-range r zone dayOfYear = repaired (within 1 366) (r .«day_of_year») 1 tt
+mend-in-range r zone dayOfYear = repaired (within 1 (lastDayOf (r .year))) (r .«day_of_year») 1 (day-ok (r .year) 1 (lit≤ tt) (lit≤ tt))
 mend-in-range r zone zoneName = repaired zoneOk zone (replicate (length zone) (byte "A")) (letters-ok (length zone))
 
 pub mend-zone : (r : Record) (zone : List ℕ) → length (mend r zone .zone) ≡ length zone
@@ -135,17 +144,16 @@ module _ (r : Record) (zone : List ℕ) where
   body-kept (fixed f) p h = refl
   body-kept (combination c) p h = rw (combination-kept c (p .flags) h)
 
-  lead-beside : (p : Piece) → Beside (λ number. number ≡ 1) (map write (leadOf (p .spec) p (r .year))) (map write (leadOf (p .spec) p (mend r zone .time .year)))
+  lead-beside : (p : Piece) → Beside Excused (map write (leadOf (p .spec) p (r .year))) (map write (leadOf (p .spec) p (mend r zone .time .year)))
   unfolding mend
   lead-beside p = beside-self _
 
-  check-beside : (b : Bool) {xs ys : List Event} → (b ≡ true → ys ≡ xs) → Beside (λ number. number ≡ 1) (check b 1 ∷ xs) (check true 1 ∷ ys)
-  check-beside true h = rw (h refl) (beside-self _)
-  check-beside false h = fails refl
-
-  pub mend-beside : (p : Piece) → Beside (λ number. number ≡ 1) (eventsOf r zone p) (eventsOf (mend r zone .time) (mend r zone .zone) p)
+  -- the twin's check passes; its own passes too, or fails with an excuse
+  pub mend-beside : (p : Piece) → Beside Excused (eventsOf r zone p) (eventsOf (mend r zone .time) (mend r zone .zone) p)
   unfolding eventsOf specEvents
   mend-beside p =
-      rw (all-ok (mend r zone .time) (mend r zone .zone) (mend-in-range r zone) (fieldsOf (p .spec)))
-      (beside-join (lead-beside p)
-      (check-beside (allOk (fieldsOf (p .spec)) r zone) (λ t. ap (map write) (body-kept (p .spec) p (passed (fieldsOf (p .spec)) r zone t)))))
+      beside-join (lead-beside p)
+      (elim (check-cases r zone (p .spec)) [
+        | inl k ↦ rw (k .0, check-passes (mend r zone .time) (mend r zone .zone) (mend-in-range r zone) (p .spec), body-kept (p .spec) p (k .1)) (beside-self _)
+        | inr k ↦ rw (k .1, eqb·suc-zero (k .0)) (fails (k .2))
+      ])

@@ -10,7 +10,7 @@ use Rattle.rules.specs.Name.{monthNames, monthName, nameOf}
 use Rattle.rules.specs.Offset.{extra, formOf, lengthOfForm}
 use Rattle.rules.specs.Reading.{onFlag, possibleSpecs, lookUp, onLetter, onColons, turn, open?}
 use Rattle.rules.specs.Writing.{valueOf, defaultWidth}
-use Rattle.rules.specs.Format.{items, step, ending, read, whole}
+use Rattle.rules.specs.Format.{items, step, ending, read, fault}
 use Rattle.longest.specs.Witness.{Stamp, september, december, witness, longestIn, lengthAt, greater, reportOf, sizeBy, sizeOf}
 use Rattle.longest.specs.SizingEdges.{SizingEdge, sizingEdges}
 use Rattle.longest.proofs.Measure.{extentOf, numberLength, nameLength, zoneLength, specLength, itemLength, totalLength}
@@ -36,5 +36,5 @@ each-formula (e ∷ edges) = ap₂ _∷_ (size-formula (e .format) (e .longest))
 
 pub sizing-edges : map (λ (e : SizingEdge). sizeOf (e .format) (e .longest)) sizingEdges ≡ map (λ (e : SizingEdge). e .report) sizingEdges
 unfolding sizingEdges byFormula reportOf totalLength itemLength specLength numberLength nameLength zoneLength witness valueOf defaultWidth decimalText digits digitsWithin
-    nameOf monthName monthNames extra formOf lengthOfForm read ending step turn open? onFlag onLetter onColons lookUp possibleSpecs whole
+    nameOf monthName monthNames extra formOf lengthOfForm read ending step turn open? onFlag onLetter onColons lookUp possibleSpecs fault
 sizing-edges = each-formula sizingEdges ∙ refl

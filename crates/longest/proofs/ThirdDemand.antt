@@ -1,6 +1,6 @@
 -- The sets of the third demand have the two extremes, so its size is the greater of the two lengths.
 use mathlib.Core.Path.{_≡_, refl}
-use mathlib.Core.Bool.{true, false}
+use mathlib.Core.Bool.{true}
 use mathlib.Core.List.{List}
 use mathlib.Core.Logic.{_⊎_, _↔_}
 use Prim.Native.Nat.{ℕ, suc, _+_, _/_, _^_, _≤_, _<_}
@@ -14,12 +14,12 @@ use Rattle.rules.specs.declared.Record.{Record}
 use Rattle.rules.specs.declared.Offset.the-variants.{TimeZoneOffsetColonMinimal}
 use Rattle.rules.specs.Record.{within, longestFormat, longestZone}
 use Rattle.rules.specs.declared.Answer.{Answer}
-use Rattle.rules.specs.Refusal.{Report, numbered}
+use Rattle.rules.specs.Refusal.{ByEvent, invalid-format-string, Report, numbered}
 use Rattle.rules.specs.Decimal.{digits, digitsWithin, decimalText, floorDiv}
 use Rattle.rules.specs.Week.{isLeap, daysIn, weekHolding, thursdayRule, isoWeek}
 use Rattle.rules.specs.Offset.{hoursOf, minus, extra, Form, hh, hhmm, hh:mm, hh:mm:ss, formOf, lengthOfForm}
 use Rattle.rules.specs.Writing.{valueOf, defaultWidth}
-use Rattle.rules.specs.Format.{items, whole}
+use Rattle.rules.specs.Format.{items, fault, valid}
 use Rattle.rules.specs.Size.{NoneServes, Kept, Sizing, Typed, AnyStamp, GoodStamp}
 use Rattle.rules.proofs.DecimalLaws.{count-le, length-text-pos, length-text-neg}
 use Rattle.rules.proofs.OneAnswer.{one-answer}
@@ -31,7 +31,7 @@ use Rattle.longest.proofs.Extremes.{Extremes, Twin}
 use Rattle.longest.proofs.Mending.{mend, mend-in-range, mend-zone, mend-beside}
 use Rattle.longest.proofs.Bounds.{Bounds, Within, Meets}
 use Rattle.longest.proofs.Witnesses.{witness-in-range, witness-zone, below-either}
-use Rattle.longest.proofs.Once.{once, five-if, two-if, six-if}
+use Rattle.longest.proofs.Once.{once, five-if, fault-if, six-if, size-if}
 use Rattle.longest.proofs.BySets.{sizing-by}
 
 abbrev bounds : Bounds
@@ -132,11 +132,20 @@ sizing-once format longest a b = once (good-sets longest) format
 pub size-once : (format : List ℕ) (longest : ℕ) (a b : Answer) → Sizing (AnyStamp longest) (GoodStamp longest) format longest (numbered a) → Sizing (AnyStamp longest) (GoodStamp longest) format longest (numbered b) → a ≡ b
 size-once format longest a b s t = one-answer a b (sizing-once format longest (numbered a) (numbered b) s t)
 
+-- "It answers 5 and 2 exactly where 01's sizing order puts them"
 pub five-exactly : (format : List ℕ) (longest : ℕ) → (sizeOf format longest .number ≡ 5) ↔ ((longestFormat < length format) ⊎ (longestZone < longest))
 five-exactly format longest = five-if (good-sets longest) format (size-is format longest)
 
-pub two-exactly : (format : List ℕ) (longest : ℕ) → (sizeOf format longest .number ≡ 2) ↔ (Kept format longest × (whole (items format) ≡ false))
-two-exactly format longest = two-if (good-sets longest) format (size-is format longest)
+pub fault-exactly : (format : List ℕ) (longest : ℕ) {number : ℕ} → ByEvent number → (sizeOf format longest .number ≡ number) ↔ (Kept format longest × (fault (items format) ≡ number))
+fault-exactly format longest b = fault-if (good-sets longest) format (size-is format longest) b
 
-pub six-exactly : (format : List ℕ) (longest : ℕ) → (sizeOf format longest .number ≡ 6) ↔ (Kept format longest × (whole (items format) ≡ true) × NoneServes (GoodStamp longest) format)
+pub two-exactly : (format : List ℕ) (longest : ℕ) → (sizeOf format longest .number ≡ 2) ↔ (Kept format longest × (fault (items format) ≡ 2))
+two-exactly format longest = fault-exactly format longest invalid-format-string
+
+-- "NoBuffer exactly if the inputs keep 01's lengths, the format is valid and some such in-range record fits no buffer of 65,536 bytes or fewer"
+pub six-exactly : (format : List ℕ) (longest : ℕ) → (sizeOf format longest .number ≡ 6) ↔ (Kept format longest × (valid format ≡ true) × NoneServes (GoodStamp longest) format)
 six-exactly format longest = six-if (good-sets longest) format (size-is format longest)
+
+-- "and an N in every other case"
+pub size-otherwise : (format : List ℕ) (longest : ℕ) → (sizeOf format longest .number ≡ 0) ↔ (Kept format longest × (valid format ≡ true) × (NoneServes (GoodStamp longest) format → ⊥))
+size-otherwise format longest = size-if (good-sets longest) format (size-is format longest)

@@ -27,7 +27,7 @@ use Rattle.rules.proofs.RecordLaws.{in-range}
 use Rattle.longest.specs.Witness.{september, december, witness}
 use Rattle.longest.proofs.NameTables.{month-letters, month-longest, late-month-longest, day-longest}
 use Rattle.longest.proofs.Combinations.{length-meridian}
-use Rattle.longest.proofs.Mending.{letters-ok}
+use Rattle.longest.proofs.Mending.{letters-ok, day-ok}
 use Rattle.longest.proofs.Measure.{textLength, widthIn, formLength, extentOf}
 use Rattle.longest.proofs.Growth.{Below}
 use Rattle.longest.proofs.Bounds.{Bounds, Within, Meets, few, most, at-most}
@@ -46,7 +46,7 @@ module _ (y t o : ℤ) (m longest : ℕ) where
   witness-in-range h second = tt
   witness-in-range h nanoseconds = tt
   witness-in-range h weekday = tt
-  witness-in-range h dayOfYear = tt
+  witness-in-range h dayOfYear = day-ok y 200 (lit≤ tt) (lit≤ tt)
   witness-in-range h zoneName = letters-ok longest
 
   -- each number of the witness takes the most

@@ -1,17 +1,17 @@
 -- The size of a format: the greater length of its text at two records that between them are the longest (01, "Refusal table", sizing).
-use mathlib.Core.Bool.{Bool, false, cond, not, _||_}
+use mathlib.Core.Bool.{Bool, false, cond, _||_}
 use mathlib.Core.List.{List}
-use Prim.Native.Nat.{ℕ, max}
+use Prim.Native.Nat.{ℕ, zero, suc, max}
 use lib.Dec.{ltb}
 use lib.ListN.{length, replicate}
 use lib.IntN.{ℤ, negsuc}
 use Rattle.rules.specs.declared.Record.{Record}
 use Rattle.rules.specs.Ascii.{byte}
-use Rattle.rules.specs.Record.{longestFormat, longestZone, longestBuffer}
+use Rattle.rules.specs.Record.{longestFormat, longestZone, longestBuffer, recordOf}
 use Rattle.rules.specs.Refusal.{Report}
 use Rattle.rules.specs.Event.{lengthOf}
 use Rattle.rules.specs.Writing.{eventsOf}
-use Rattle.rules.specs.Format.{items, events, whole}
+use Rattle.rules.specs.Format.{items, events, fault}
 
 -- a record and its zone name
 pub record Stamp : Type 0 where
@@ -30,21 +30,7 @@ december = 12
 unfoldable pub witness : ℤ → ℤ → ℤ → ℕ → ℕ → Stamp
 witness year to-int offset month longest =
     record {
-      time =
-          record {
-            year = year;
-            month = month;
-            day = 28;
-            hour = 22;
-            minute = 59;
-            second = 59;
-            nanoseconds = 0;
-            «day_of_week» = 3;
-            «day_of_year» = 200;
-            «to_int» = to-int;
-            «is_utc» = false;
-            «utc_offset» = offset;
-          };
+      time = recordOf year month 28 22 59 59 0 3 200 to-int false offset;
       zone = replicate longest (byte "A");
     }
 
@@ -73,11 +59,16 @@ tooLong format longest = ltb longestFormat (length format) || ltb longestZone lo
 abbrev pub noBuffer : ℕ → Bool
 noBuffer n = ltb longestBuffer n
 
+-- a fault refuses, whatever follows; 0 is none
+abbrev pub unless : ℕ → Report → Report
+unless zero rest = rest
+unless (suc n) rest = refuses (suc n)
+
 -- "Sizing: 5, then 2 for any format that ends inside a directive, then 6." n: the length of its longest text
 unfoldable pub reportOf : ℕ → List ℕ → ℕ → Report
 reportOf n format longest =
     cond (tooLong format longest) (refuses 5)
-    (cond (not (whole (items format))) (refuses 2)
+    (unless (fault (items format))
     (cond (noBuffer n) (refuses 6)
     (needing n)))
 

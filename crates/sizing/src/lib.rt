@@ -1,17 +1,19 @@
 // Sizing, which the original hasn't: the exact least buffer of a format.
 ghost use mathlib.Core.Path.{_≡_};
 ghost use mathlib.Core.Bool.{true};
-ghost use Prim.Native.Nat.{_≤_, min, max};
-ghost use lib.ListN.{length};
-ghost use Rattle.rules.specs.Record.{within};
+ghost use Prim.Native.Nat.{suc, min, max};
+ghost use Rattle.rules.specs.Record.{longestBuffer, within};
 ghost use Rattle.rules.specs.Refusal.{numbered};
-ghost use Rattle.rules.specs.Format.{items, whole};
-ghost use Rattle.rules.specs.Size.{AnyStamp, GoodStamp, Sizing};
+ghost use Rattle.rules.specs.Format.{items, fault};
+ghost use Rattle.rules.specs.Size.{Kept, AnyStamp, GoodStamp, Sizing};
 ghost use Rattle.longest.specs.Witness.{longestIn, lengthAt, sizeOf};
-use reading::is_valid;
 use rules::Answer;
+use rules::LONGEST_BUFFER;
+use rules::LONGEST_FORMAT;
+use rules::LONGEST_ZONE;
 use rules::Record;
 use rules::Refusal;
+use text::is_refused;
 use walk::run;
 
 // The record that is longest in every field but the month.
@@ -34,21 +36,25 @@ fn witness(month: u8) -> Record
     }
 }
 
-// The length of its text, or 65,537 for every length above 65,536. It is counted, not written: the slice that is lent is empty.
+// The length of its text, or one more than the longest buffer for every length above that. It is counted, not written: the slice that is lent is empty.
 fn needed(format: &[u8], longest_zone: usize, month: u8) -> usize
-    requires { ⌜ (length (now format) ≤ 4096) × (whole (items (now format)) ≡ true) × («longest_zone» ≤ 64) × (within 1 12 month ≡ true) ⌝ }
-    ensures { λ r. ⌜ r ≡ min 65537 (lengthAt (longestIn month «longest_zone») (now (format .entry))) ⌝ }
+    requires { ⌜ Kept (now format) «longest_zone» × (fault (items (now format)) ≡ 0) × (within 1 12 month ≡ true) ⌝ }
+    ensures { λ r. ⌜ r ≡ min (suc longestBuffer) (lengthAt (longestIn month «longest_zone») (now (format .entry))) ⌝ }
 {
-    let zone = [b'A'; 64];
+    let zone = [b'A'; LONGEST_ZONE];
     let mut none = [0u8; 1];
     let end = run(
         format,
         &zone[..longest_zone],
         witness(month),
         &mut none[..0],
-        65536,
+        LONGEST_BUFFER,
     );
-    if end > 65536 { 65537 } else { end }
+    if is_refused(end) {
+        LONGEST_BUFFER + 1
+    } else {
+        end
+    }
 }
 
 fn greater_of(a: usize, b: usize) -> usize
@@ -62,19 +68,20 @@ pub fn size(format: &[u8], longest_zone: usize) -> Answer
     ensures answer { λ r. ⌜ numbered r ≡ sizeOf (now (format .entry)) «longest_zone» ⌝ }
     ensures demand { λ r. ⌜ Sizing (AnyStamp «longest_zone») (GoodStamp «longest_zone») (now (format .entry)) «longest_zone» (numbered r) ⌝ }
 {
-    if format.len() > 4096 {
+    if format.len() > LONGEST_FORMAT {
         return Answer::Refused(Refusal::InputTooLong);
     }
-    if longest_zone > 64 {
+    if longest_zone > LONGEST_ZONE {
         return Answer::Refused(Refusal::InputTooLong);
     }
-    if !is_valid(format) {
-        return Answer::Refused(Refusal::InvalidFormatString);
+    let fault = reading::fault_of(format);
+    if fault != 0 {
+        return Answer::Refused(rules::refusal_of(fault));
     }
     let september = needed(format, longest_zone, 9);
     let december = needed(format, longest_zone, 12);
     let bytes = greater_of(september, december);
-    if bytes > 65536 {
+    if bytes > LONGEST_BUFFER {
         return Answer::Refused(Refusal::NoBuffer);
     }
     Answer::Done(bytes)
