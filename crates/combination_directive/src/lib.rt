@@ -84,7 +84,7 @@ fn date(out: &mut [u8], at: usize, room: usize, record: Record) -> usize
     }
     let month = record.month;
     let day = record.day;
-    let year = numbers::rem_euclid_100(record.year as i64);
+    let year = numbers::rem_euclid_100(record.year);
     let text = [
         tens(month),
         ones(month),

@@ -1,15 +1,15 @@
 -- How a signed number goes through the machine: what is read back of what was written, and the two signs.
 use mathlib.Core.Path.{_≡_, refl, ap, _∙_, subst⁻¹}
 use mathlib.Core.Bool.{true, false}
-use Prim.Native.Nat.{ℕ, zero, suc, _+_, _-_, _^_, _<_, _≤_}
+use Prim.Native.Nat.{ℕ, suc, _+_, _-_, _<_, _≤_}
 use native.Mathlib.Omega.{arith}
 use lib.IntN.{ℤ, pos, negsuc, _-ℤ_, natAbs}
 use lib.Signed.{mag, ltZ, nonNeg}
 use lib.Dec.{T}
 use borrow.Author.Tests.{ltb-true, le-ltb}
 use mir.Syntax.{Width, w32, w64}
-use mir.Val.{SFits, Fits, ofZ, toZ, hbits}
-use mir.ValLaws.{toZ-ofZ, toZ-pos}
+use mir.Val.{SFits, Fits, ofZ, toZ}
+use mir.ValLaws.{toZ-ofZ}
 
 -- what is read back of a value that is known to be z
 pub through : (w : Width) {y z : ℤ} → y ≡ z → SFits w z → toZ w (ofZ w y) ≡ z
@@ -50,20 +50,12 @@ is-neg w x f t = neg-mag x (rw (toZ-ofZ w x f) at t)
 pub is-pos : (w : Width) (x : ℤ) → SFits w x → ltZ (toZ w (ofZ w x)) (pos 0) ≡ false → x ≡ pos (mag x)
 is-pos w x f t = pos-mag x (rw (toZ-ofZ w x f) at t)
 
--- −1 − (−(n + 1)) is n, and −1 − n is −(n + 1)
-pub flip-neg : (n : ℕ) → negsuc 0 -ℤ negsuc n ≡ pos n
+-- −1 − (−(n + 1)) is n
+flip-neg : (n : ℕ) → negsuc 0 -ℤ negsuc n ≡ pos n
 flip-neg n =
     let h : 1 ≤ suc n = omega arith in
     let e : suc n - 1 ≡ n = omega arith in
     rw (le-ltb (suc n) 1 h) (ap pos e)
-
-pub flip-pos : (n : ℕ) → negsuc 0 -ℤ pos n ≡ negsuc n
-flip-pos zero = refl
-flip-pos (suc n) = ap (λ (k : ℕ). negsuc (suc k)) (omega arith)
-
--- −1 − n of an unsigned n that was cast
-pub flip-cast : (w : Width) (n : ℕ) → n < 2 ^ hbits w → negsuc 0 -ℤ toZ w n ≡ negsuc n
-flip-cast w n h = ap (λ (z : ℤ). negsuc 0 -ℤ z) (toZ-pos w n h) ∙ flip-pos n
 
 -- −1 − x of a negative x, as the code computes it
 pub flipped : (w : Width) (x : ℤ) → SFits w x → ltZ (toZ w (ofZ w x)) (pos 0) ≡ true → negsuc 0 -ℤ toZ w (ofZ w x) ≡ pos (mag x)

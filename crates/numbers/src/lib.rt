@@ -30,15 +30,27 @@ pub fn unsigned_abs(x: i32) -> u32
 pub fn div_euclid_100(y: i32) -> i32
     ensures { λ r. ⌜ r ≡ floorDiv y 100 ⌝ }
 {
-    let q = magnitude(y as i64) / 100;
-    if y < 0 { -1 - (q as i32) } else { q as i32 }
+    let q = y / 100;
+    if y % 100 < 0 { q - 1 } else { q }
 }
 
-pub fn rem_euclid_100(y: i64) -> u8
+pub fn rem_euclid_100(y: i32) -> u8
     ensures { λ r. ⌜ r ≡ floorMod y 100 ⌝ }
 {
-    let m = magnitude(y) % 100;
-    if y < 0 { (99 - m) as u8 } else { m as u8 }
+    let r = y % 100;
+    if r < 0 { (r + 100) as u8 } else { r as u8 }
+}
+
+// The same of an ISO year, which is one beyond the i32 years at each end.
+pub fn rem_euclid_100_wide(y: i64) -> u8
+    ensures { λ r. ⌜ r ≡ floorMod y 100 ⌝ }
+{
+    let rest = y % 100;
+    if rest < 0 {
+        (rest + 100) as u8
+    } else {
+        rest as u8
+    }
 }
 
 pub fn tens(v: u8) -> u8

@@ -113,7 +113,7 @@ pub fn value_of(number: Number, record: Record) -> Value
     match number {
         Number::Year4Digits => year(true, record.year as i64),
         Number::YearDiv100 => wide(true, numbers::div_euclid_100(record.year) as i64, 2),
-        Number::YearRem100 => zeros(true, numbers::rem_euclid_100(record.year as i64), 2),
+        Number::YearRem100 => zeros(true, numbers::rem_euclid_100(record.year), 2),
         Number::Month => zeros(fields::month(record), record.month, 2),
         Number::MonthDayZero => zeros(fields::day(record), record.day, 2),
         Number::MonthDaySpace => spaces(fields::day(record), record.day),
@@ -127,7 +127,7 @@ pub fn value_of(number: Number, record: Record) -> Value
         Number::WeekDayFrom1 => zeros(fields::day_of_week(record), from_1(record.day_of_week), 1),
         Number::WeekDayFrom0 => zeros(fields::day_of_week(record), record.day_of_week, 1),
         Number::YearIso8601 => year(fields::week(record), iso(record).year),
-        Number::YearIso8601Rem100 => weekly(record, numbers::rem_euclid_100(iso(record).year)),
+        Number::YearIso8601Rem100 => weekly(record, numbers::rem_euclid_100_wide(iso(record).year)),
         Number::WeekNumberIso8601 => weekly(record, iso(record).week),
         Number::WeekNumberFromSunday => weekly(record, week_of(record, WeekStart::Sunday)),
         Number::WeekNumberFromMonday => weekly(record, week_of(record, WeekStart::Monday)),
