@@ -1,11 +1,11 @@
 // Ports what core::fmt and the integers' own methods do for mod.rs: numbers as text, magnitudes, floor quotients.
 ghost use mathlib.Core.Path.{_≡_};
-ghost use mathlib.Core.List.{_++_};
+ghost use mathlib.Core.List.{[], _∷_, _++_};
 ghost use Prim.Native.Nat.{ℕ, _+_, _-_, _*_, _/_, _%_, _^_, _<_, _≤_};
 ghost use lib.IntN.{natAbs};
 ghost use lib.ListN.{length, take, drop, replicate};
 ghost use lib.Signed.{mag};
-ghost use Rattle.rules.specs.Decimal.{digitCount, places, decimalText, floorDiv, floorMod};
+ghost use Rattle.rules.specs.Decimal.{digitCount, places, two, decimalText, floorDiv, floorMod};
 
 // n of n, and of -(n + 1).
 pub fn magnitude(x: i64) -> u64
@@ -64,6 +64,16 @@ pub fn ones(v: u8) -> u8
     ensures { λ r. ⌜ r ≡ 48 + v % 10 ⌝ }
 {
     48 + v % 10
+}
+
+// The two digits of a number below 100.
+pub struct TwoDigits(pub u8, pub u8);
+
+pub fn two_digits(v: u8) -> TwoDigits
+    requires { ⌜ v < 100 ⌝ }
+    ensures { λ r. ⌜ r .0 ∷ r .1 ∷ [] ≡ two v ⌝ }
+{
+    TwoDigits(tens(v), ones(v))
 }
 
 pub fn power(k: usize) -> u32
