@@ -15,7 +15,7 @@ use Rattle.rules.specs.Record.{allOk}
 use Rattle.rules.specs.Decimal.{Fill}
 use Rattle.rules.specs.Event.{Event, write, check}
 use Rattle.rules.specs.Offset.{Form, hh, hhmm, hh:mm, hh:mm:ss, hoursOf, minutesOf, secondsOf, minus, extra, formOf, lengthOfForm, partsOf, offsetWrites}
-use Rattle.rules.specs.Writing.{widthOr, zerosUnless, fieldsOf, leadOf, bodyOf, specEvents}
+use Rattle.rules.specs.Writing.{widthOr, zerosUnless, fieldsOf, leadOf, bodyOf, verdict, verdictOf, specEvents}
 use Rattle.rules.proofs.WidthLaws.{extra-small}
 use Rattle.offset.specs.declared.OffsetParts.{OffsetParts}
 use Rattle.offset.specs.Parts.{partsFor}
@@ -69,15 +69,12 @@ writesBy o spaces width left utc z = map write (offsetWrites (formOf o z) (fillW
 
 -- no field is checked
 pub offset-events : (o : Offset) (p : Piece) (r : Record) (zone : List ℕ)
-    → check true 1 ∷ writesBy o (isSpaces (p .padding)) (widthOr (p .width) 0) (p .flags .left) (r .«is_utc») (r .«utc_offset») ≡ specEvents (offset o) p r zone
-unfolding specEvents leadOf fieldsOf bodyOf allOk
+    → check true 0 ∷ writesBy o (isSpaces (p .padding)) (widthOr (p .width) 0) (p .flags .left) (r .«is_utc») (r .«utc_offset») ≡ specEvents (offset o) p r zone
+unfolding specEvents verdictOf verdict leadOf fieldsOf bodyOf allOk
 offset-events o p r zone =
     let z = r .«utc_offset» in
-    ap (λ (f : Fill). check true 1 ∷ map write (offsetWrites (formOf o z) f (widthOr (p .width) 0) (minus (p .flags .left) (r .«is_utc») z) z)) (fill-is (p .padding))
+    ap (λ (f : Fill). check true 0 ∷ map write (offsetWrites (formOf o z) f (widthOr (p .width) 0) (minus (p .flags .left) (r .«is_utc») z) z)) (fill-is (p .padding))
 
-pub offset-run : {limit room : ℕ} (o : Offset) (p : Piece) (r : Record) (zone : List ℕ) {spaces : Bool} {width : ℕ} {z : ℤ} → spaces ≡ isSpaces (p .padding) → width ≡ widthOr (p .width) 0 → z ≡ r .«utc_offset» →
-    {l l′ : List ℕ} {n n′ : ℕ} → Ran limit room (writesBy o spaces width (p .flags .left) (r .«is_utc») z) l n l′ n′ → Ran limit room (specEvents (offset o) p r zone) l n l′ n′
-offset-run o p r zone {spaces} {width} {z} a b e w =
-    same-events (offset-events o p r zone)
-    (checks-hold
-    (same-events (ap (λ (b : Bool). writesBy o b width (p .flags .left) (r .«is_utc») z) a ∙ ap (λ (k : ℕ). writesBy o (isSpaces (p .padding)) k (p .flags .left) (r .«is_utc») z) b ∙ ap (λ (x : ℤ). writesBy o (isSpaces (p .padding)) (widthOr (p .width) 0) (p .flags .left) (r .«is_utc») x) e) w))
+pub offset-run : {limit room : ℕ} (o : Offset) (p : Piece) (r : Record) (zone : List ℕ) {spaces left : Bool} {width : ℕ} {z : ℤ} → spaces ≡ isSpaces (p .padding) → left ≡ p .flags .left → width ≡ widthOr (p .width) 0 → z ≡ r .«utc_offset» →
+    {l l′ : List ℕ} {n n′ : ℕ} → Ran limit room (writesBy o spaces width left (r .«is_utc») z) l n l′ n′ → Ran limit room (specEvents (offset o) p r zone) l n l′ n′
+offset-run o p r zone s f b e w = same-events (offset-events o p r zone) (checks-hold (same-events (rw (s, f, b, e)) w))

@@ -6,6 +6,7 @@ ghost use mathlib.Core.List.{List, [], _∷_, _++_, map};
 ghost use Prim.Native.Nat.{ℕ, _+_, _-_, _≤_, _<_};
 ghost use lib.IntN.{ℤ};
 ghost use Rattle.rules.specs.declared.Spec.the-variants as spec;
+ghost use Rattle.rules.specs.Record.{longestBuffer};
 ghost use Rattle.rules.specs.Event as event;
 ghost use Rattle.rules.specs.Decimal.{digits, two};
 ghost use Rattle.rules.specs.Offset.{Form, hh, hhmm, hh:mm, hh:mm:ss, minutesOf, secondsOf, minus, signOf, signAndPad, formOf, lengthOfForm, offsetWrites};
@@ -19,6 +20,7 @@ ghost use Rattle.offset_directive.specs.Short.{isShort, isSpaces};
 use numbers::ones;
 use numbers::tens;
 use offset::OffsetParts;
+use rules::Flag;
 use rules::Offset;
 use rules::Padding;
 use rules::Piece;
@@ -47,7 +49,7 @@ fn write_sign_and_pad(
     negative: bool,
     count: usize,
 ) -> usize
-    requires { ⌜ Room (now out) room × (65536 ≤ limit) ⌝ }
+    requires { ⌜ Room (now out) room × (longestBuffer ≤ limit) ⌝ }
     ensures { λ r. ⌜ Ran limit room (map event.write (signAndPad (fillWith (not spaces)) negative count)) (now (out .entry)) at (now (out .exit)) r ⌝ }
 {
     if spaces {
@@ -68,7 +70,7 @@ fn write_offset_hour(
     parts: OffsetParts,
     length: usize,
 ) -> usize
-    requires { ⌜ Room (now out) room × (65536 ≤ limit) × Small parts × (1 ≤ length) ⌝ }
+    requires { ⌜ Room (now out) room × (longestBuffer ≤ limit) × Small parts × (1 ≤ length) ⌝ }
     ensures { λ r. ⌜ Ran limit room (map event.write (signAndPad (fillWith (not spaces)) (parts .minus) (width - length + parts .extra)) ++ (event.write (event.put (digits (parts .hours))) ∷ [])) (now (out .entry)) at (now (out .exit)) r ⌝ }
 {
     let count = printing::saturating_sub(width, length) + parts.extra;
@@ -86,7 +88,7 @@ fn write_offset_hh(
     spaces: bool,
     parts: OffsetParts,
 ) -> usize
-    requires { ⌜ Room (now out) room × (65536 ≤ limit) × Small parts ⌝ }
+    requires { ⌜ Room (now out) room × (longestBuffer ≤ limit) × Small parts ⌝ }
     ensures { λ r. ⌜ Ran limit room (map event.write (partsWrites hh (fillWith (not spaces)) width parts)) (now (out .entry)) at (now (out .exit)) r ⌝ }
 {
     write_offset_hour(out, at, room, limit, width, spaces, parts, 3)
@@ -101,7 +103,7 @@ fn write_offset_hhmm(
     spaces: bool,
     parts: OffsetParts,
 ) -> usize
-    requires { ⌜ Room (now out) room × (65536 ≤ limit) × Small parts ⌝ }
+    requires { ⌜ Room (now out) room × (longestBuffer ≤ limit) × Small parts ⌝ }
     ensures { λ r. ⌜ Ran limit room (map event.write (partsWrites hhmm (fillWith (not spaces)) width parts)) (now (out .entry)) at (now (out .exit)) r ⌝ }
 {
     let next = write_offset_hour(out, at, room, limit, width, spaces, parts, 5);
@@ -117,7 +119,7 @@ fn write_offset_hh_mm(
     spaces: bool,
     parts: OffsetParts,
 ) -> usize
-    requires { ⌜ Room (now out) room × (65536 ≤ limit) × Small parts ⌝ }
+    requires { ⌜ Room (now out) room × (longestBuffer ≤ limit) × Small parts ⌝ }
     ensures { λ r. ⌜ Ran limit room (map event.write (partsWrites hh:mm (fillWith (not spaces)) width parts)) (now (out .entry)) at (now (out .exit)) r ⌝ }
 {
     let next = write_offset_hour(out, at, room, limit, width, spaces, parts, 6);
@@ -134,7 +136,7 @@ fn write_offset_hh_mm_ss(
     spaces: bool,
     parts: OffsetParts,
 ) -> usize
-    requires { ⌜ Room (now out) room × (65536 ≤ limit) × Small parts ⌝ }
+    requires { ⌜ Room (now out) room × (longestBuffer ≤ limit) × Small parts ⌝ }
     ensures { λ r. ⌜ Ran limit room (map event.write (partsWrites hh:mm:ss (fillWith (not spaces)) width parts)) (now (out .entry)) at (now (out .exit)) r ⌝ }
 {
     let next = write_offset_hour(out, at, room, limit, width, spaces, parts, 9);
@@ -159,7 +161,7 @@ fn write_long(
     parts: OffsetParts,
     length: usize,
 ) -> usize
-    requires { ⌜ Room (now out) room × (65536 ≤ limit) × Small parts ⌝ }
+    requires { ⌜ Room (now out) room × (longestBuffer ≤ limit) × Small parts ⌝ }
     ensures { λ r. ⌜ ((form : Form) → length ≡ lengthOfForm form → Ran limit room (map event.write (partsWrites form (fillWith (not spaces)) width parts)) (now (out .entry)) at (now (out .exit)) r) ⌝ }
 {
     match length {
@@ -246,7 +248,7 @@ pub fn zone_offset(
     is_utc: bool,
     utc_offset: i32,
 ) -> usize
-    requires { ⌜ Room (now out) room × (65536 ≤ limit) ⌝ }
+    requires { ⌜ Room (now out) room × (longestBuffer ≤ limit) ⌝ }
     ensures { λ r. ⌜ Ran limit room (map event.write (offsetWrites (formOf offset «utc_offset») (fillWith (not spaces)) width (minus left «is_utc» «utc_offset») «utc_offset»)) (now (out .entry)) at (now (out .exit)) r ⌝ }
 {
     let parts = offset::offset_parts(utc_offset, is_utc, left);
@@ -280,14 +282,15 @@ pub fn offset(
     offset: Offset,
     record: Record,
 ) -> usize
-    requires { ⌜ Room (now out) room × (65536 ≤ limit) ⌝ }
+    requires { ⌜ Room (now out) room × (longestBuffer ≤ limit) ⌝ }
     ensures { λ r. ⌜ ((zone : List ℕ) → Ran limit room (specEvents (spec.Offset offset) piece «record» zone) (now (out .entry)) at (now (out .exit)) r) ⌝ }
 {
     let given = piece.width;
     let width = printing::width_or(given, 0);
     let padding = piece.padding;
     let spaces = is_spaces(padding);
-    let left = piece.flags.left;
+    let flags = piece.flags;
+    let left = flags.contains(Flag::LeftPadding);
     let is_utc = record.is_utc;
     zone_offset(
         out,
@@ -312,7 +315,7 @@ pub fn plain_offset(
     offset: Offset,
     record: Record,
 ) -> usize
-    requires { ⌜ Room (now out) room × (65536 ≤ limit) ⌝ }
+    requires { ⌜ Room (now out) room × (longestBuffer ≤ limit) ⌝ }
     ensures { λ r. ⌜ ((zone : List ℕ) → Ran limit room (specEvents (spec.Offset offset) (plainPiece (spec.Offset offset)) «record» zone) (now (out .entry)) at (now (out .exit)) r) ⌝ }
 {
     let is_utc = record.is_utc;

@@ -19,9 +19,6 @@ cast-year c = widens (c .before .before .before .before .args .«record» .year)
 cast-wide : tie.Need-cast-wide
 cast-wide c = widens (c .div-euclid-100 .result) (record { sfits = c .div-euclid-100 .ok })
 
-cast-rem-euclid-100 : tie.Need-cast-rem-euclid-100
-cast-rem-euclid-100 c = widens (c .before .before .before .before .args .«record» .year) (omega arith)
-
 -- Year4Digits
 returns : tie.Need-returns
 unfolding valueOf defaultWidth fillOf numberFields
@@ -39,8 +36,8 @@ returns-2 c =
 returns-3 : tie.Need-returns-3
 unfolding valueOf defaultWidth fillOf numberFields
 returns-3 c =
-    let year = widened (c .before .before .before .before .before .before .args .«record» .year) (omega arith) in
-    unchecked (c .before .before .before .before .enum-told3 .given .1) refl refl (ap pos (c .before .rem-euclid-100 .ensures ∙ ap (λ (y : ℤ). floorMod y 100) year)) (c .zeros .ensures)
+    let year = toZ-ofZ w32 (c .before .before .before .before .before .args .«record» .year) (omega arith) in
+    unchecked (c .before .before .before .enum-told3 .given .1) refl refl (ap pos (c .before .rem-euclid-100 .ensures ∙ ap (λ (y : ℤ). floorMod y 100) year)) (c .zeros .ensures)
 
 -- Month
 returns-4 : tie.Need-returns-4
@@ -118,7 +115,7 @@ unfolding valueOf defaultWidth fillOf numberFields
 returns-17 c =
     let iso = c .before .before .before .iso2 in
     let year = toZ-ofZ w64 (iso .result .year) (omega arith) in
-    let rem = c .before .rem-euclid-1002 .ensures ∙ ap (λ (y : ℤ). floorMod y 100) year in
+    let rem = c .before .rem-euclid-100-wide .ensures ∙ ap (λ (y : ℤ). floorMod y 100) year in
     week-checked (c .before .before .before .before .enum-told17 .given .1) refl refl (λ w. ap pos (rem ∙ ap (λ (i : IsoWeek). floorMod (i .year) 100) (iso .ensures w))) (c .weekly .ensures)
 
 -- WeekNumberIso8601
@@ -144,7 +141,7 @@ returns-21 c = unchecked (c .before .before .enum-told21 .given .1) refl refl (t
 pub value-of-spec : {M : Type 1} → statement M
 value-of-spec =
     tie.close (tie.spec (λ c. search needs) cast-year (λ c κs. search needs) (λ c. search needs) (λ c κs. search needs)
-    cast-wide (λ c κs. search needs) (λ c. search needs) cast-rem-euclid-100 (λ c κs. search needs)
+    cast-wide (λ c κs. search needs) (λ c. search needs) (λ c κs. search needs)
     (λ c κs. search needs) (λ c. search needs) (λ c κs. search needs) (λ c κs. search needs) (λ c. search needs)
     (λ c κs. search needs) (λ c κs. search needs) (λ c. search needs) (λ c κs. search needs) (λ c κs. search needs)
     (λ c. search needs) (λ c κs. search needs) (λ c. search needs) (λ c κs. search needs) (λ c. search needs)
