@@ -7,12 +7,13 @@ use Rattle.offset_directive.proofs.offset.Statement.{statement}
 use Rattle.offset_directive.proofs.offset.Tie as tie
 
 returns : tie.Need-returns
-returns c = let a = c .before .before .before .before .before .before .before .before .args in
+returns c =
+    let a = c .before .before .before .before .before .before .before .before .before .before .args in
     λ zone.
-    offset-run (a .offset) (a .piece) (a .«record») zone (c .before .before .before .before .before .is-spaces .ensures) (c .before .before .before .before .before .before .width-or .ensures) (toZ-ofZ w32 _ (record { sfits = c .before .before .before .struct-told .given .1 .1 .1 .1 .1 .1 .1 .1 .1 .1 .1 .0 .1 }))
+    offset-run (a .offset) (a .piece) (a .«record») zone (c .before .before .before .before .before .before .before .is-spaces .ensures) (c .before .before .before .before .before .contains .ensures) (c .before .before .before .before .before .before .before .before .width-or .ensures) (toZ-ofZ w32 _ (record { sfits = c .before .before .before .struct-told .given .1 .1 .1 .1 .1 .1 .1 .1 .1 .1 .1 .0 .1 }))
     (c .before .before .zone-offset .ensures)
 
 pub offset-spec : {M : Type 1} → statement M
 offset-spec =
-    tie.close (tie.spec (λ c κs. search needs) (λ c κs. search needs) (λ c κs. search needs) (λ c. search needs)
-    returns)
+    tie.close (tie.spec (λ c κs. search needs) (λ c κs. search needs) (λ c κs. search needs) (λ c κs. search needs)
+    (λ c. search needs) returns)

@@ -18,7 +18,7 @@ same-length c = search needs
 returns : tie.Need-returns
 returns c = let a = c .before .before .before .before .before .before .args in
     λ zone.
-    offset-run (a .offset) (plainPiece (offset (a .offset))) (a .«record») zone refl refl (toZ-ofZ w32 _ (record { sfits = c .before .before .before .before .struct-told .given .1 .1 .1 .1 .1 .1 .1 .1 .1 .1 .1 .0 .1 }))
+    offset-run (a .offset) (plainPiece (offset (a .offset))) (a .«record») zone refl refl refl (toZ-ofZ w32 _ (record { sfits = c .before .before .before .before .struct-told .given .1 .1 .1 .1 .1 .1 .1 .1 .1 .1 .1 .0 .1 }))
     (c .before .before .zone-offset .ensures)
 
 pub plain-offset-spec : {M : Type 1} → statement M
