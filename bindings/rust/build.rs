@@ -38,13 +38,13 @@ fn built() -> PathBuf {
         root.join("crates.txt").display()
     );
     match Command::new("rt")
-        .args(["staticlib", "abi"])
+        .args(["staticlib", "groatsaddle"])
         .current_dir(&root)
         .status()
     {
-        Ok(status) if status.success() => root.join("target/staticlib/libabi.a"),
+        Ok(status) if status.success() => root.join("target/staticlib/libgroatsaddle.a"),
         Ok(status) => stop(&format!(
-            "rt staticlib abi did not build the library: {status}"
+            "rt staticlib groatsaddle did not build the library: {status}"
         )),
         Err(error) => stop(&format!("rt, of the Rattle kit, can't be run: {error}")),
     }

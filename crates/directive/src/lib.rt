@@ -1,5 +1,6 @@
 // Ports `Piece::fmt` of mod.rs: a directive, by its kind.
 ghost use Prim.Native.Nat.{_≤_};
+ghost use Rattle.rules.specs.Record.{longestBuffer};
 ghost use Rattle.rules.specs.Writing.{specEvents, eventsOf};
 ghost use Rattle.text.specs.Ran.{Ran};
 ghost use Rattle.text.specs.Room.{Room};
@@ -33,13 +34,13 @@ pub fn plain_directive(
     record: Record,
     zone: &[u8],
 ) -> usize
-    requires { ⌜ Room (now out) room × (65536 ≤ limit) ⌝ }
+    requires { ⌜ Room (now out) room × (longestBuffer ≤ limit) ⌝ }
     ensures { λ r. ⌜ Ran limit room (specEvents spec (plainPiece spec) «record» (now (zone .entry))) (now (out .entry)) at (now (out .exit)) r ⌝ }
 {
     match spec {
         Spec::Number(n) => plain_number(out, at, room, n, record),
         Spec::Name(n) => plain_name(out, at, room, limit, n, record),
-        Spec::Fraction(f) => fraction(out, at, room, limit, fraction_digits(f), record.nanoseconds),
+        Spec::Fraction(f) => fraction(out, at, room, limit, fraction_digits(f), record),
         Spec::Offset(o) => plain_offset(out, at, room, limit, o, record),
         Spec::TimeZoneName => plain_zone_name(out, at, room, limit, zone),
         Spec::Fixed(f) => plain_fixed(out, at, room, limit, f),
@@ -56,7 +57,7 @@ pub fn directive(
     record: Record,
     zone: &[u8],
 ) -> usize
-    requires { ⌜ Room (now out) room × (65536 ≤ limit) ⌝ }
+    requires { ⌜ Room (now out) room × (longestBuffer ≤ limit) ⌝ }
     ensures { λ r. ⌜ Ran limit room (eventsOf «record» (now (zone .entry)) piece) (now (out .entry)) at (now (out .exit)) r ⌝ }
 {
     let spec = piece.spec;
@@ -70,7 +71,7 @@ pub fn directive(
             room,
             limit,
             width_or(width, fraction_digits(f)),
-            record.nanoseconds,
+            record,
         ),
         Spec::Offset(o) => offset(out, at, room, limit, piece, o, record),
         Spec::TimeZoneName => zone_name(out, at, room, limit, piece, zone),

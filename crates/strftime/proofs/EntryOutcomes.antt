@@ -9,10 +9,11 @@ use Rattle.rules.specs.declared.Refusal.{Refusal}
 use Rattle.rules.specs.declared.Refusal.the-variants.{InputTooLong}
 use Rattle.rules.specs.declared.Answer.{Answer}
 use Rattle.rules.specs.declared.Answer.the-variants.{Done, Refused}
-use Rattle.rules.specs.Refusal.{numberOf, numbered}
+use Rattle.rules.specs.Record.{longestBuffer}
+use Rattle.rules.specs.Refusal.{numberOf, ByEvent, numbered}
 use Rattle.rules.specs.Event.{Event, at, tally, Outcome, refused, run, reported, bufferAfter}
-use Rattle.rules.proofs.FormatLaws.{Among, Numbered, CountOk, tally-ok}
-use Rattle.text.specs.Ran.{Ran}
+use Rattle.rules.proofs.FormatLaws.{Numbered, CountOk, tally-ok}
+use Rattle.text.specs.Ran.{refusedUnit, Ran}
 use Rattle.text.proofs.PlaceLaws.{count-at, count-no}
 use Rattle.text.proofs.RanLaws.{inside}
 use Rattle.text.proofs.EntryLaws.{ran-done, ran-refused, ran-length, untouched, written, copied}
@@ -26,23 +27,23 @@ unfolding numbered numberOf reported bufferAfter
 declined before e = rw e (refl, refl)
 
 module _ {limit room : ℕ} {es : List Event} {l l′ : List ℕ} {n : ℕ} (w : Ran limit room es l 0 l′ n) where
-  -- a refusal's number is one of the table's first four
-  pub refusal-known : Numbered 4 es → 65536 < n → Among 4 (n / 131072)
+  -- a refusal's number is one that an event gives
+  pub refusal-known : Numbered ByEvent es → longestBuffer < n → ByEvent (n / refusedUnit)
   refusal-known h k =
-      subst (CountOk 4 (lit≤ tt)) (ap (tally limit room es) (sym (count-at 0 (lit≤ tt))) ∙ sym (w .count) ∙ count-no n k)
-      (tally-ok 4 (lit≤ tt) limit room es (at 0) h tt)
+      subst (CountOk ByEvent) (ap (tally limit room es) (sym (count-at 0 (lit≤ tt))) ∙ sym (w .count) ∙ count-no n k)
+      (tally-ok ByEvent (λ number g. g) limit room es (at 0) h tt)
 
   module _ (before : List ℕ) {outcome : Outcome} (e : outcome ≡ run limit room es) where
-    pub refused-there : (q : Refusal) → 65536 < n → numberOf q ≡ n / 131072 → Promised outcome before (Refused q) before
+    pub refused-there : (q : Refusal) → longestBuffer < n → numberOf q ≡ n / refusedUnit → Promised outcome before (Refused q) before
     unfolding numbered reported
     refused-there q h k = rw e (rw (ran-refused w h, k), untouched w before h)
 
-    done-there : n ≤ 65536 → numbered (Done n) ≡ reported (run limit room es)
+    done-there : n ≤ longestBuffer → numbered (Done n) ≡ reported (run limit room es)
     unfolding numbered reported
     done-there h = let k = ran-length w h in rw (ran-done w h, ← k)
 
-    pub written-there : l ≡ before → length before ≡ room → n ≤ 65536 → Promised outcome before (Done n) l′
+    pub written-there : l ≡ before → length before ≡ room → n ≤ longestBuffer → Promised outcome before (Done n) l′
     written-there s long h = rw e (done-there h, rw s at (written w h (omega (arith, inside w (omega arith) h, ap length s))))
 
-    pub copied-there : (rest : List ℕ) {after : List ℕ} → n ≤ 65536 → n ≤ length l → after ≡ take n (l′ ++ rest) ++ drop n before → Promised outcome before (Done n) after
+    pub copied-there : (rest : List ℕ) {after : List ℕ} → n ≤ longestBuffer → n ≤ length l → after ≡ take n (l′ ++ rest) ++ drop n before → Promised outcome before (Done n) after
     copied-there rest h g k = rw e (done-there h, copied w before rest h g k)

@@ -19,7 +19,7 @@ use Rattle.rules.specs.Record.{Field, month, day, hour, minute, second, okField
 use Rattle.rules.specs.Event.{put, write}
 use Rattle.rules.specs.Decimal.{two, zeros}
 use Rattle.rules.specs.Reading.{outset, onFlag, possibleSpecs, lookUp, pieceOf, onLetter, turn}
-use Rattle.rules.specs.Writing.{valueOf, defaultWidth, fillOf, numberWrites, numberFields, fieldsOf, leadOf, bodyOf, specEvents, eventsOf}
+use Rattle.rules.specs.Writing.{valueOf, defaultWidth, fillOf, numberWrites, numberFields, fieldsOf, leadOf, bodyOf, verdict, verdictOf, specEvents, eventsOf}
 use Rattle.rules.proofs.DecimalLaws.{filled-zeros-places}
 use Rattle.text.specs.Ran.{Ran}
 use Rattle.text.proofs.RanLaws.{same-events, checks-hold, pad-none}
@@ -58,7 +58,7 @@ letters =
 
 -- the digits of a letter's field, where it is in range
 pub two-digits : {b : ℕ} {n : Number} {f : Field} {field : Record → ℕ} → Letter b n f field → {x v : ℕ} {ok : Bool} (r : Record) → x ≡ b → ((zone : List ℕ) → ok ≡ okField f r zone) → Held ok (field r) v → v < 100 → Two r x v
-unfolding eventsOf specEvents leadOf fieldsOf bodyOf numberWrites allOk
+unfolding eventsOf specEvents verdictOf verdict leadOf fieldsOf bodyOf numberWrites allOk
 two-digits {n = n} {field = field} l {v = v} r e ok i h =
     record {
       piece = pieceOf outset Unset false (number n);

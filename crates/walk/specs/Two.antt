@@ -17,7 +17,7 @@ use Rattle.rules.specs.Writing.{eventsOf}
 pub record Two (r : Record) (b v : ℕ) : Type 0 where
   pub piece : Piece
   pub read : turn (InFlags outset) b ≡ Found piece
-  pub events : (zone : List ℕ) → eventsOf r zone piece ≡ check true 1 ∷ write (pad (byte "0") 0) ∷ write (put (two v)) ∷ []
+  pub events : (zone : List ℕ) → eventsOf r zone piece ≡ check true 0 ∷ write (pad (byte "0") 0) ∷ write (put (two v)) ∷ []
 
 -- v is the number n, and n is in range
 pub record Held (ok : Bool) (n v : ℕ) : Type 0 where

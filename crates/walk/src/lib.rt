@@ -6,21 +6,22 @@ ghost use Prim.Native.Nat.{_≤_, _<_};
 ghost use lib.ListN.{length, getD};
 ghost use Rattle.rules.specs.declared.Spec as declaredSpec;
 ghost use Rattle.rules.specs.declared.Entry.the-variants.{Is};
+ghost use Rattle.rules.specs.Record.{longestFormat, longestBuffer};
 ghost use Rattle.rules.specs.Reading.{specOf};
 ghost use Rattle.rules.specs.Writing.{eventsOf};
 ghost use Rattle.rules.specs.Format.{items, events, limitOf};
 ghost use Rattle.text.specs.Ran.{Ran};
 ghost use Rattle.text.specs.Room.{Room};
 ghost use Rattle.walk.specs.Steps.{Stepped};
+use cursor::parsed_at;
 use directive::directive;
 use directive::plain_directive;
 use reading::literal_end;
-use reading::parse_spec;
 use rules::Entry;
 use rules::Parsed;
 use rules::Record;
 use table::spec_of;
-use text::checked;
+use text::judged;
 use text::put_part;
 use text::put_two;
 use two::two_at;
@@ -42,14 +43,14 @@ fn parsed_item(
     room: usize,
     limit: usize,
 ) -> Step
-    requires { ⌜ Room (now out) room × (65536 ≤ limit) × (i < length (now format)) × (getD (now format) i 0 ≡ 37) ⌝ }
+    requires { ⌜ Room (now out) room × (longestBuffer ≤ limit) × (i < length (now format)) × (getD (now format) i 0 ≡ 37) ⌝ }
     ensures { λ r. ⌜ Stepped limit room «record» (now (zone .entry)) (now (format .entry)) i (now (out .entry)) at (now (out .exit)) r ⌝ }
 {
-    let parsed = parse_spec(format, i + 1);
+    let parsed = parsed_at(format, i + 1);
     let Parsed::Directive(piece, next) = parsed else {
         let Parsed::Echo(end) = parsed else {
             return Step {
-                at: checked(at, false, 2),
+                at: judged(at, 2),
                 next: format.len(),
             };
         };
@@ -85,7 +86,7 @@ pub fn item(
     room: usize,
     limit: usize,
 ) -> Step
-    requires { ⌜ Room (now out) room × (65536 ≤ limit) × (i < length (now format)) × (getD (now format) i 0 ≡ 37) ⌝ }
+    requires { ⌜ Room (now out) room × (longestBuffer ≤ limit) × (i < length (now format)) × (getD (now format) i 0 ≡ 37) ⌝ }
     ensures { λ r. ⌜ Stepped limit room «record» (now (zone .entry)) (now (format .entry)) i (now (out .entry)) at (now (out .exit)) r ⌝ }
 {
     let value = two_at(format, i, record);
@@ -107,7 +108,7 @@ pub fn item(
 
 // All of a format: literal bytes and items, from its start to its end.
 pub fn run(format: &[u8], zone: &[u8], record: Record, out: &mut [u8], room: usize) -> usize
-    requires { ⌜ Room (now out) room × (length (now format) ≤ 4096) ⌝ }
+    requires { ⌜ Room (now out) room × (length (now format) ≤ longestFormat) ⌝ }
     ensures { λ r. ⌜ Ran (limitOf (length (now (format .entry)))) room (events (eventsOf «record» (now (zone .entry))) (items (now (format .entry)))) (now (out .entry)) 0 (now (out .exit)) r ⌝ }
 {
     let limit = format.len() * 524288;

@@ -8,7 +8,11 @@ use rules::Record;
 fn if_ok(ok: bool, number: u8) -> u8
     ensures { λ r. ⌜ (r < 100 → Held ok number r) ⌝ }
 {
-    if ok { number } else { 100 }
+    if fields::verdict(ok) == 0 {
+        number
+    } else {
+        100
+    }
 }
 
 // The number of a plain two-digit directive whose field is in range, or 100.

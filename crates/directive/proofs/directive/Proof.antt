@@ -21,7 +21,7 @@ unfolding eventsOf
 returns-3 c =
     let p = c .before .before .before .before .before .before .before .before .before .before .before .args .piece in
     by-kind (λ s. c .before .before .before .before .before .before .before .before .before .before .before .args .piece) _ _ (c .before .before .before .before .before .before .before .spec3 .given .1)
-    (fraction-run _ p _ _ (c .before .before .before .width-or .ensures ∙ ap (λ (n : ℕ). widthOr (p .width) n) (c .before .before .before .before .fraction-digits .ensures)) (c .before .before .fraction .ensures))
+    (fraction-run _ p _ _ (c .before .before .before .width-or .ensures ∙ ap (λ (n : ℕ). widthOr (p .width) n) (c .before .before .before .before .fraction-digits .ensures)) (c .before .before .fraction .ensures _ _))
 
 returns-4 : tie.Need-returns-4
 unfolding eventsOf

@@ -13,7 +13,7 @@ returns-2 : tie.Need-returns-2
 returns-2 c = by-kind plainPiece _ _ (c .before .before .before .before .before .spec2 .given .1) (c .before .before .plain-name .ensures _)
 
 returns-3 : tie.Need-returns-3
-returns-3 c = by-kind plainPiece _ _ (c .before .before .before .before .before .before .spec3 .given .1) (fraction-run _ _ _ _ (c .before .before .before .fraction-digits .ensures) (c .before .before .fraction .ensures))
+returns-3 c = by-kind plainPiece _ _ (c .before .before .before .before .before .before .spec3 .given .1) (fraction-run _ _ _ _ (c .before .before .before .fraction-digits .ensures) (c .before .before .fraction .ensures _ _))
 
 returns-4 : tie.Need-returns-4
 returns-4 c = by-kind plainPiece _ _ (c .before .before .before .before .before .spec4 .given .1) (c .before .before .plain-offset .ensures _)

@@ -11,20 +11,20 @@ use Rattle.walk.proofs.parsed_item.Tie as tie
 returns : tie.Need-returns
 returns c =
     let s = c .before .before .before .before .before .before .before in
-    let p = c .before .before .before .parse-spec in
+    let p = c .before .before .before .parsed-at in
     step-cut _ (s .pre .2) refl (items-at _ _ .percent (s .pre .2) (s .pre .3) _ (sym (p .ensures) ∙ only-cut (p .result) (c .before .before .match .keys2) (c .before .match2 .keys2)))
-    (c .checked .ensures _ _ _)
+    (c .judged .ensures _ _ _)
 
 put-part-requires : tie.Need-put-part-requires
 put-part-requires c κs =
     let s = c .before .before .before .before .before .before .before .before .before in
-    let q = items-at _ _ .percent (s .pre .2) (s .pre .3) _ (sym (c .before .before .before .before .before .parse-spec .ensures) ∙ c .before .before .parsed2 .given .1) in
+    let q = items-at _ _ .percent (s .pre .2) (s .pre .3) _ (sym (c .before .before .before .before .before .parsed-at .ensures) ∙ c .before .before .parsed2 .given .1) in
     (s .pre .0, omega (arith, q .onward), q .within)
 
 returns-2 : tie.Need-returns-2
 returns-2 c =
     let s = c .before .before .before .before .before .before .before .before .before .before .before .before in
-    step-echo _ _ (items-at _ _ .percent (s .pre .2) (s .pre .3) _ (sym (c .before .before .before .before .before .before .before .before .parse-spec .ensures) ∙ c .before .before .before .before .before .parsed2 .given .1)) (c .before .before .put-part .ensures _)
+    step-echo _ _ (items-at _ _ .percent (s .pre .2) (s .pre .3) _ (sym (c .before .before .before .before .before .before .before .before .parsed-at .ensures) ∙ c .before .before .before .before .before .parsed2 .given .1)) (c .before .before .put-part .ensures _)
 
 directive-requires : tie.Need-directive-requires
 directive-requires c κs = let s = c .before .before .before .before .before .before .before .before in (s .pre .0, s .pre .1)
@@ -32,7 +32,7 @@ directive-requires c κs = let s = c .before .before .before .before .before .be
 returns-3 : tie.Need-returns-3
 returns-3 c =
     let s = c .before .before .before .before .before .before .before .before .before .before .before in
-    step-directive _ _ (items-at _ _ .percent (s .pre .2) (s .pre .3) _ (sym (c .before .before .before .before .before .before .before .parse-spec .ensures) ∙ c .before .before .before .before .before .parsed .given .1)) (c .before .before .directive .ensures)
+    step-directive _ _ (items-at _ _ .percent (s .pre .2) (s .pre .3) _ (sym (c .before .before .before .before .before .before .before .parsed-at .ensures) ∙ c .before .before .before .before .before .parsed .given .1)) (c .before .before .directive .ensures)
 
 pub parsed-item-spec : {M : Type 1} → statement M
 parsed-item-spec =

@@ -1,14 +1,16 @@
--- 100 is not below 100.
+-- A verdict of 0 says that the field is in range; 100 is not below 100.
+use mathlib.Core.Path.{refl}
 use native.Mathlib.Omega.{arith}
 use borrow.Author.Needs.{needs}
+use Rattle.text.proofs.JudgedLaws.{verdict-held}
 use Rattle.walk.proofs.two.if_ok.Statement.{statement}
 use Rattle.walk.proofs.two.if_ok.Tie as tie
 
 returns : tie.Need-returns
-returns c = search needs
+returns c small = record { holds = verdict-held _ (c .before .verdict .ensures) (c .if1 .taken); number = refl }
 
 returns-2 : tie.Need-returns-2
 returns-2 c small = absurd (omega arith)
 
 pub if-ok-spec : {M : Type 1} → statement M
-if-ok-spec = tie.close (tie.spec returns returns-2)
+if-ok-spec = tie.close (tie.spec (λ c κs. search needs) returns returns-2)

@@ -1,9 +1,9 @@
 -- The entry's answer, as a C caller has it.
 use Rattle.sizing.proofs.EntryLaws.{size-small}
-use Rattle.abi.proofs.Laws.{same-small, sized}
+use Rattle.groatsaddle.proofs.Laws.{same-small, sized}
 use borrow.Author.Needs.{needs}
-use Rattle.abi.proofs.gs_size.Statement.{statement}
-use Rattle.abi.proofs.gs_size.Tie as tie
+use Rattle.groatsaddle.proofs.gs_size.Statement.{statement}
+use Rattle.groatsaddle.proofs.gs_size.Tie as tie
 
 size-requires : tie.Need-size-requires
 size-requires c κs = search needs

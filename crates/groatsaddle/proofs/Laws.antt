@@ -12,6 +12,7 @@ use Rattle.rules.specs.declared.Record.{Record}
 use Rattle.rules.specs.declared.Refusal.{Refusal}
 use Rattle.rules.specs.declared.Answer.{Answer}
 use Rattle.rules.specs.declared.Answer.the-variants.{Done, Refused}
+use Rattle.rules.specs.Record.{longestFormat, longestZone, longestBuffer, recordOf}
 use Rattle.rules.specs.Refusal.{numberOf, Report, numbered}
 use Rattle.rules.specs.Event.{Outcome, done, refused, reported, bufferAfter}
 use Rattle.rules.specs.Format.{formatted}
@@ -19,42 +20,15 @@ use Rattle.rules.specs.Size.{AnyStamp, GoodStamp, Sizing}
 use Rattle.longest.specs.Witness.{sizeOf}
 use Rattle.rules.proofs.FormatLaws.{format-too-long, zone-too-long, buffer-too-long}
 use Rattle.rules.proofs.Demands.{done-fits}
-use Rattle.abi.specs.declared.GsRecord.{GsRecord}
-use Rattle.abi.specs.declared.GsAnswer.{GsAnswer}
-use Rattle.abi.specs.Entries.{recordFrom, reportFrom}
+use Rattle.groatsaddle.specs.declared.GsRecord.{GsRecord}
+use Rattle.groatsaddle.specs.declared.GsAnswer.{GsAnswer}
+use Rattle.groatsaddle.specs.Entries.{recordFrom, reportFrom}
 
 -- the record, whose signed fields are read back from their bits
 pub same-record : (r : GsRecord) {y t o : ℤ} {u : Bool} → y ≡ r .year → t ≡ r .«to_int» → o ≡ r .«utc_offset» → u ≡ not (eqb (r .«is_utc») 0) →
-    _≡_ {A = Record} (record {
-      year = y;
-      month = r .month;
-      day = r .day;
-      hour = r .hour;
-      minute = r .minute;
-      second = r .second;
-      nanoseconds = r .nanoseconds;
-      «day_of_week» = r .«day_of_week»;
-      «day_of_year» = r .«day_of_year»;
-      «to_int» = t;
-      «is_utc» = u;
-      «utc_offset» = o;
-    }) (recordFrom r)
+    recordOf y (r .month) (r .day) (r .hour) (r .minute) (r .second) (r .nanoseconds) (r .«day_of_week») (r .«day_of_year») t u o ≡ recordFrom r
 unfolding recordFrom
-same-record r a b c d =
-    λ i. record {
-      year = a i;
-      month = r .month;
-      day = r .day;
-      hour = r .hour;
-      minute = r .minute;
-      second = r .second;
-      nanoseconds = r .nanoseconds;
-      «day_of_week» = r .«day_of_week»;
-      «day_of_year» = r .«day_of_year»;
-      «to_int» = b i;
-      «is_utc» = d i;
-      «utc_offset» = c i;
-    }
+same-record r a b c d = cc
 
 -- ## The length
 
@@ -63,35 +37,35 @@ refused-or format zone r room text e f =
     let z : _≡_ {A = ℕ} 0 1 = cc in
     absurd (omega arith)
 
-done-small : (format zone : List ℕ) (r : Record) (room : ℕ) (text : List ℕ) → formatted format zone r room ≡ done text → length text ≤ 65536
+done-small : (format zone : List ℕ) (r : Record) (room : ℕ) (text : List ℕ) → formatted format zone r room ≡ done text → length text ≤ longestBuffer
 done-small format zone r room text e =
-    elim (decLe room 65536) [
+    elim (decLe room longestBuffer) [
       | yes b ↦ omega (arith, done-fits format zone r room text e)
-      | no b ↦ elim (decLe (length format) 4096) [
+      | no b ↦ elim (decLe (length format) longestFormat) [
         | no f ↦ refused-or format zone r room text e (format-too-long format zone r room (omega arith))
-        | yes f ↦ elim (decLe (length zone) 64) [
+        | yes f ↦ elim (decLe (length zone) longestZone) [
           | no z ↦ refused-or format zone r room text e (zone-too-long format zone r room f (omega arith))
           | yes z ↦ refused-or format zone r room text e (buffer-too-long format zone r room f z (omega arith))
         ]
       ]
     ]
 
-pub report-small : (format zone : List ℕ) (r : Record) (room : ℕ) → reported (formatted format zone r room) .bytes ≤ 65536
+pub report-small : (format zone : List ℕ) (r : Record) (room : ℕ) → reported (formatted format zone r room) .bytes ≤ longestBuffer
 unfolding reported
 report-small format zone r room = go (formatted format zone r room) refl
   where
-    go : (o : Outcome) → formatted format zone r room ≡ o → reported o .bytes ≤ 65536
+    go : (o : Outcome) → formatted format zone r room ≡ o → reported o .bytes ≤ longestBuffer
     go (done text) e = done-small format zone r room text e
     go (refused number) e = omega arith
 
 -- ## The answer
 
 -- an answer that reports what another does is as short
-pub same-small : {a b : Report} → a ≡ b → b .bytes ≤ 65536 → a .bytes ≤ 65536
+pub same-small : {a b : Report} → a ≡ b → b .bytes ≤ longestBuffer → a .bytes ≤ longestBuffer
 same-small e h = rw e h
 
 module _ (a : Answer) where
-  pub from-small : {n : ℕ} → a ≡ Done n → numbered a .bytes ≤ 65536 → n ≤ 65536
+  pub from-small : {n : ℕ} → a ≡ Done n → numbered a .bytes ≤ longestBuffer → n ≤ longestBuffer
   unfolding numbered
   from-small e h = rw e at h
 

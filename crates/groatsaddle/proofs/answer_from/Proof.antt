@@ -1,9 +1,9 @@
 -- Each arm reports what the answer does.
 use native.Mathlib.Omega.{arith}
-use Rattle.abi.proofs.Laws.{from-small, from-done, from-refused}
+use Rattle.groatsaddle.proofs.Laws.{from-small, from-done, from-refused}
 use borrow.Author.Needs.{needs}
-use Rattle.abi.proofs.answer_from.Statement.{statement}
-use Rattle.abi.proofs.answer_from.Tie as tie
+use Rattle.groatsaddle.proofs.answer_from.Statement.{statement}
+use Rattle.groatsaddle.proofs.answer_from.Tie as tie
 
 cast-t5 : tie.Need-cast-t5
 cast-t5 c = record { fits = omega (arith, from-small _ (c .before .answer .given .1) (c .before .before .before .pre)) }

@@ -9,8 +9,8 @@ use Rattle.rules.specs.Event.{reported, bufferAfter}
 use Rattle.rules.specs.Format.{formatted}
 use Rattle.rules.specs.Size.{AnyStamp, GoodStamp, Sizing}
 use Rattle.longest.proofs.ThirdDemand.{sizing-once}
-use Rattle.abi.specs.declared.GsAnswer.{GsAnswer}
-use Rattle.abi.specs.Entries.{reportFrom}
+use Rattle.groatsaddle.specs.declared.GsAnswer.{GsAnswer}
+use Rattle.groatsaddle.specs.Entries.{reportFrom}
 
 answerBy : Report → GsAnswer
 answerBy r = record { refusal = r .number; length = r .bytes }

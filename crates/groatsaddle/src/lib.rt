@@ -2,12 +2,13 @@
 ghost use mathlib.Core.Path.{_≡_};
 ghost use Prim.Native.Nat.{_≤_};
 ghost use lib.ListN.{length};
+ghost use Rattle.rules.specs.Record.{longestBuffer};
 ghost use Rattle.rules.specs.Event.{reported, bufferAfter};
 ghost use Rattle.rules.specs.Format.{formatted};
 ghost use Rattle.rules.specs.Refusal.{numbered};
 ghost use Rattle.rules.specs.Size.{AnyStamp, GoodStamp, Sizing};
 ghost use Rattle.longest.specs.Witness.{sizeOf};
-ghost use Rattle.abi.specs.Entries.{recordFrom, reportFrom};
+ghost use Rattle.groatsaddle.specs.Entries.{recordFrom, reportFrom};
 use rules::Answer;
 use rules::Record;
 
@@ -54,7 +55,7 @@ fn record_from(r: GsRecord) -> Record
 }
 
 fn answer_from(answer: Answer) -> GsAnswer
-    requires { ⌜ numbered answer .bytes ≤ 65536 ⌝ }
+    requires { ⌜ numbered answer .bytes ≤ longestBuffer ⌝ }
     ensures { λ r. ⌜ reportFrom r ≡ numbered answer ⌝ }
 {
     match answer {

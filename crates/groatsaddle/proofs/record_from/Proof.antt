@@ -2,10 +2,10 @@
 use mathlib.Core.Path.{refl}
 use mir.Syntax.{w32, w64}
 use mir.Facts.{toZ-ofZ}
-use Rattle.abi.proofs.Laws.{same-record}
+use Rattle.groatsaddle.proofs.Laws.{same-record}
 use borrow.Author.Needs.{needs}
-use Rattle.abi.proofs.record_from.Statement.{statement}
-use Rattle.abi.proofs.record_from.Tie as tie
+use Rattle.groatsaddle.proofs.record_from.Statement.{statement}
+use Rattle.groatsaddle.proofs.record_from.Tie as tie
 
 returns : tie.Need-returns
 returns c = same-record _ (toZ-ofZ {w = w32} (search needs)) (toZ-ofZ {w = w64} (search needs)) (toZ-ofZ {w = w32} (search needs)) refl

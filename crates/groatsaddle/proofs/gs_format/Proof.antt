@@ -1,8 +1,8 @@
 -- The entry's answer and buffer, as a C caller has them.
-use Rattle.abi.proofs.Laws.{report-small, same-small, answered}
+use Rattle.groatsaddle.proofs.Laws.{report-small, same-small, answered}
 use borrow.Author.Needs.{needs}
-use Rattle.abi.proofs.gs_format.Statement.{statement}
-use Rattle.abi.proofs.gs_format.Tie as tie
+use Rattle.groatsaddle.proofs.gs_format.Statement.{statement}
+use Rattle.groatsaddle.proofs.gs_format.Tie as tie
 
 answer-from-requires : tie.Need-answer-from-requires
 answer-from-requires c κs = same-small (c .before .before .format .ensures .0) (report-small _ _ _ _)
