@@ -6,8 +6,11 @@ use Rattle.name_directive.proofs.fixed.Tie as tie
 
 returns : tie.Need-returns
 returns c =
-    let a = c .before .before .before .before .before .before .before .before .before .before .args in
-    λ r zone. fixed-written (a .fixed) (a .piece) r zone (c .before .before .before .fixed-byte .ensures) (c .before .before .before .before .before .before .before .string-padding .ensures) (c .before .before .put-byte .ensures _)
+    let after-fixed-byte = c .before .before .before in
+    let after-string-padding = after-fixed-byte .before .before .before .before in
+    let start = after-string-padding .before .before .before in
+    let a = start .args in
+    λ r zone. fixed-written (a .fixed) (a .piece) r zone (after-fixed-byte .fixed-byte .ensures) (after-string-padding .string-padding .ensures) (c .before .before .put-byte .ensures _)
 
 pub fixed-spec : {M : Type 1} → statement M
 fixed-spec =

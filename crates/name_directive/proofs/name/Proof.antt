@@ -18,18 +18,35 @@ returns c =
 
 name-length-requires : tie.Need-name-length-requires
 name-length-requires c κs =
-    let a = c .before .before .before .before .before .before .before .args in
-    in-range-named (a .name) (a .«record») (c .before .before .before .before .before .in-range .ensures) (verdict-held _ (c .before .before .before .before .verdict .ensures) (c .before .before .before .if1 .left)) (c .before .name-number .ensures)
+    let after-if1 = c .before .before .before in
+    let after-verdict = after-if1 .before in
+    let after-in-range = after-verdict .before in
+    let start = after-in-range .before .before in
+    let a = start .args in
+    in-range-named (a .name) (a .«record») (after-in-range .in-range .ensures) (verdict-held _ (after-verdict .verdict .ensures) (after-if1 .if1 .left)) (c .before .name-number .ensures)
 
 put-name-requires : tie.Need-put-name-requires
 put-name-requires c κs =
-    let s = c .before .before .before .before .before .before .before .before .before .before .before .before .before in
-    (room-kept (c .before .before .before .before .string-padding .ensures) (s .pre .0), in-range-named (s .args .name) (s .args .«record») (c .before .before .before .before .before .before .before .before .before .before .before .in-range .ensures) (verdict-held _ (c .before .before .before .before .before .before .before .before .before .before .verdict .ensures) (c .before .before .before .before .before .before .before .before .before .if1 .left)) (c .before .before .before .before .before .before .before .name-number .ensures))
+    let after-string-padding = c .before .before .before .before in
+    let after-name-number = after-string-padding .before .before .before in
+    let after-if1 = after-name-number .before .before in
+    let after-verdict = after-if1 .before in
+    let after-in-range = after-verdict .before in
+    let s = after-in-range .before .before in
+    (room-kept (after-string-padding .string-padding .ensures) (s .pre .0), in-range-named (s .args .name) (s .args .«record») (after-in-range .in-range .ensures) (verdict-held _ (after-verdict .verdict .ensures) (after-if1 .if1 .left)) (after-name-number .name-number .ensures))
 
 returns-2 : tie.Need-returns-2
 returns-2 c =
-    let a = c .before .before .before .before .before .before .before .before .before .before .before .before .before .before .before .before .args in
-    λ zone. named (a .name) (a .piece) (a .«record») zone (c .before .before .before .before .before .before .before .before .before .before .before .before .before .before .in-range .ensures zone) (c .before .before .before .before .before .before .before .before .before .before .before .before .before .verdict .ensures) (c .before .before .before .before .before .before .before .before .before .before .before .before .if1 .left) (c .before .before .before .before .before .before .before .before .before .before .name-number .ensures) (c .before .before .before .in-capitals .ensures) (c .before .before .before .before .before .before .before .before .name-length .ensures _) (c .before .before .before .before .before .before .before .string-padding .ensures) (c .before .before .put-name .ensures _)
+    let after-in-capitals = c .before .before .before in
+    let after-string-padding = after-in-capitals .before .before .before .before in
+    let after-name-length = after-string-padding .before in
+    let after-name-number = after-name-length .before .before in
+    let after-if1 = after-name-number .before .before in
+    let after-verdict = after-if1 .before in
+    let after-in-range = after-verdict .before in
+    let start = after-in-range .before .before in
+    let a = start .args in
+    λ zone. named (a .name) (a .piece) (a .«record») zone (after-in-range .in-range .ensures zone) (after-verdict .verdict .ensures) (after-if1 .if1 .left) (after-name-number .name-number .ensures) (after-in-capitals .in-capitals .ensures) (after-name-length .name-length .ensures _) (after-string-padding .string-padding .ensures) (c .before .before .put-name .ensures _)
 
 pub name-spec : {M : Type 1} → statement M
 name-spec =

@@ -19,13 +19,23 @@ returns c =
 
 put-name-requires : tie.Need-put-name-requires
 put-name-requires c κs =
-    let s = c .before .before .before .before .before .before .before .before in
-    (s .pre .0, in-range-named (s .args .name) (s .args .«record») (c .before .before .before .before .before .before .in-range .ensures) (verdict-held _ (c .before .before .before .before .before .verdict .ensures) (c .before .before .before .before .if1 .left)) (c .before .before .before .name-number .ensures))
+    let after-name-number = c .before .before .before in
+    let after-if1 = after-name-number .before in
+    let after-verdict = after-if1 .before in
+    let after-in-range = after-verdict .before in
+    let s = after-in-range .before .before in
+    (s .pre .0, in-range-named (s .args .name) (s .args .«record») (after-in-range .in-range .ensures) (verdict-held _ (after-verdict .verdict .ensures) (after-if1 .if1 .left)) (after-name-number .name-number .ensures))
 
 returns-2 : tie.Need-returns-2
 returns-2 c =
-    let s = c .before .before .before .before .before .before .before .before .before .before .before in
-    λ zone. plain-named (s .args .name) (s .args .«record») zone (c .before .before .before .before .before .before .before .before .before .in-range .ensures zone) (c .before .before .before .before .before .before .before .before .verdict .ensures) (c .before .before .before .before .before .before .before .if1 .left) (c .before .before .before .before .before .before .name-number .ensures) (c .before .before .before .in-capitals .ensures ∙ ap (capitals (s .args .name)) (c .before .before .before .before .new .ensures)) (s .pre .1) (c .before .before .put-name .ensures _)
+    let after-in-capitals = c .before .before .before in
+    let after-new = after-in-capitals .before in
+    let after-name-number = after-new .before .before in
+    let after-if1 = after-name-number .before in
+    let after-verdict = after-if1 .before in
+    let after-in-range = after-verdict .before in
+    let s = after-in-range .before .before in
+    λ zone. plain-named (s .args .name) (s .args .«record») zone (after-in-range .in-range .ensures zone) (after-verdict .verdict .ensures) (after-if1 .if1 .left) (after-name-number .name-number .ensures) (after-in-capitals .in-capitals .ensures ∙ ap (capitals (s .args .name)) (after-new .new .ensures)) (s .pre .1) (c .before .before .put-name .ensures _)
 
 pub plain-name-spec : {M : Type 1} → statement M
 plain-name-spec =

@@ -14,8 +14,12 @@ returns c = λ r. zone-empty _ r (c .before .before .before .before .before .bef
 
 returns-2 : tie.Need-returns-2
 returns-2 c =
-    let s = c .before .before .before .before .before .before .before .before .before .before in
-    λ r. plain-zone-named r (s .args .zone .now) (c .before .before .before .before .before .before .before .time-zone .ensures) (c .before .before .before .before .before .before .verdict .ensures) (c .before .before .before .before .if1 .left) (s .pre .1) (c .before .before .before .before .before .judged .ensures _ _ _) (c .before .before .put-slice .ensures _)
+    let after-if1 = c .before .before .before .before in
+    let after-judged = after-if1 .before in
+    let after-verdict = after-judged .before in
+    let after-time-zone = after-verdict .before in
+    let s = after-time-zone .before .before .before in
+    λ r. plain-zone-named r (s .args .zone .now) (after-time-zone .time-zone .ensures) (after-verdict .verdict .ensures) (after-if1 .if1 .left) (s .pre .1) (after-judged .judged .ensures _ _ _) (c .before .before .put-slice .ensures _)
 
 pub plain-zone-name-spec : {M : Type 1} → statement M
 plain-zone-name-spec =

@@ -13,13 +13,23 @@ returns c =
 
 returns-2 : tie.Need-returns-2
 returns-2 c =
-    let a = c .before .before .before .before .before .before .before .before .before .before .args in
-    λ limit. said (zone-raised (a .flags) (a .zone .now) (sym (c .before .before .before .before .before .before .before .contains .ensures) ∙ c .before .before .before .before .before .before .if1 .left) (sym (c .before .before .before .before .before .contains2 .ensures) ∙ c .before .before .before .before .if2 .taken)) (c .before .before .put-cased2 .ensures limit)
+    let after-if2 = c .before .before .before .before in
+    let after-contains2 = after-if2 .before in
+    let after-if1 = after-contains2 .before in
+    let after-contains = after-if1 .before in
+    let start = after-contains .before .before .before in
+    let a = start .args in
+    λ limit. said (zone-raised (a .flags) (a .zone .now) (sym (after-contains .contains .ensures) ∙ after-if1 .if1 .left) (sym (after-contains2 .contains2 .ensures) ∙ after-if2 .if2 .taken)) (c .before .before .put-cased2 .ensures limit)
 
 returns-3 : tie.Need-returns-3
 returns-3 c =
-    let a = c .before .before .before .before .before .before .before .before .before .before .args in
-    λ limit. said (zone-same (a .flags) (a .zone .now) (sym (c .before .before .before .before .before .before .before .contains .ensures) ∙ c .before .before .before .before .before .before .if1 .left) (sym (c .before .before .before .before .before .contains2 .ensures) ∙ c .before .before .before .before .if2 .left)) (c .before .before .put-slice .ensures limit)
+    let after-if2 = c .before .before .before .before in
+    let after-contains2 = after-if2 .before in
+    let after-if1 = after-contains2 .before in
+    let after-contains = after-if1 .before in
+    let start = after-contains .before .before .before in
+    let a = start .args in
+    λ limit. said (zone-same (a .flags) (a .zone .now) (sym (after-contains .contains .ensures) ∙ after-if1 .if1 .left) (sym (after-contains2 .contains2 .ensures) ∙ after-if2 .if2 .left)) (c .before .before .put-slice .ensures limit)
 
 pub put-zone-spec : {M : Type 1} → statement M
 put-zone-spec =

@@ -11,7 +11,11 @@ cast-put-places : tie.Need-cast-put-places
 cast-put-places c = quotient-fits _ _ (search needs)
 
 returns : tie.Need-returns
-returns c = nine-or-fewer _ _ (c .before .before .before .before .before .if1 .taken) (c .before .before .before .before .power .ensures) (c .before .before .before .before .before .before .before .pre .0 .small) (c .before .before .before .before .before .before .before .pre .1) (c .before .before .put-places .ensures _)
+returns c =
+    let after-power = c .before .before .before .before in
+    let after-if1 = after-power .before in
+    let start = after-if1 .before .before in
+    nine-or-fewer _ _ (after-if1 .if1 .taken) (after-power .power .ensures) (start .pre .0 .small) (start .pre .1) (c .before .before .put-places .ensures _)
 
 returns-2 : tie.Need-returns-2
 returns-2 c = more-than-nine _ _ (c .before .before .before .before .before .before .before .before .if1 .left) (c .before .before .before .before .before .before .put-places2 .ensures _) (c .before .before .pad .ensures)

@@ -8,13 +8,19 @@ use Rattle.number_directive.proofs.format_num.Tie as tie
 
 returns : tie.Need-returns
 returns c =
-    let a = c .before .before .before .before .before .before .args in
-    narrow (fillWith (a .zeros)) (a .width) (a .v) (c .before .before .before .before .if1 .taken) (c .before .before .before .before .before .before .pre .1) (as-read (fillWith (a .zeros)) (a .width) (a .v) (c .before .before .before .before .before .before .fits .v) (c .before .before .put-decimal .ensures _))
+    let after-if1 = c .before .before .before .before in
+    let start = after-if1 .before .before in
+    let a = start .args in
+    narrow (fillWith (a .zeros)) (a .width) (a .v) (after-if1 .if1 .taken) (start .pre .1) (as-read (fillWith (a .zeros)) (a .width) (a .v) (start .fits .v) (c .before .before .put-decimal .ensures _))
 
 returns-2 : tie.Need-returns-2
 returns-2 c =
-    let a = c .before .before .before .before .before .before .before .before .before .before .before .args in
-    wide (fillWith (a .zeros)) (a .width) (a .v) (c .before .before .before .before .before .before .before .before .before .if1 .left) (c .before .before .before .before .before .before .before .fill-byte .ensures) (c .before .before .before .before .before .before .put-padding .ensures) (as-read (fillWith (a .zeros)) 65535 (a .v) (c .before .before .before .before .before .before .before .before .before .before .before .fits .v) (c .before .before .put-decimal2 .ensures _))
+    let after-put-padding = c .before .before .before .before .before .before in
+    let after-fill-byte = after-put-padding .before in
+    let after-if1 = after-fill-byte .before .before in
+    let start = after-if1 .before .before in
+    let a = start .args in
+    wide (fillWith (a .zeros)) (a .width) (a .v) (after-if1 .if1 .left) (after-fill-byte .fill-byte .ensures) (after-put-padding .put-padding .ensures) (as-read (fillWith (a .zeros)) 65535 (a .v) (start .fits .v) (c .before .before .put-decimal2 .ensures _))
 
 pub format-num-spec : {M : Type 1} → statement M
 format-num-spec =

@@ -22,7 +22,12 @@ put-two-requires : tie.Need-put-two-requires
 put-two-requires c κs = (c .before .before .before .before .before .before .pre, few-below 2 _ (two-digits (c .before)))
 
 returns : tie.Need-returns
-returns c = λ limit. said (few-text 2 _ (two-digits (c .before .before .before .before)) (lit≤ tt) (c .before .before .before .before .before .before .before .if1 .taken) (eqb-true (c .before .before .before .before .before .before .before .before .before .args .width) 2 (c .before .before .before .before .before .before .if2 .taken))) (c .before .before .put-two .ensures limit)
+returns c =
+    let start = c .before .before .before .before in
+    let after-if2 = start .before .before in
+    let after-if1 = after-if2 .before in
+    let start-2 = after-if1 .before .before in
+    λ limit. said (few-text 2 _ (two-digits (start)) (lit≤ tt) (after-if1 .if1 .taken) (eqb-true (start-2 .args .width) 2 (after-if2 .if2 .taken))) (c .before .before .put-two .ensures limit)
 
 cast-put-four : tie.Need-cast-put-four
 cast-put-four c = cast-few 4 _ (four-digits (c .before)) w32 (lit≤ tt)
@@ -31,7 +36,12 @@ put-four-requires : tie.Need-put-four-requires
 put-four-requires c κs = (c .before .before .before .before .before .before .before .pre, few-below 4 _ (four-digits (c .before)))
 
 returns-2 : tie.Need-returns-2
-returns-2 c = λ limit. said (few-text 4 _ (four-digits (c .before .before .before .before)) (lit≤ tt) (c .before .before .before .before .before .before .before .if5 .taken) (eqb-true (c .before .before .before .before .before .before .before .before .before .before .args .width) 4 (c .before .before .before .before .before .before .if6 .taken))) (c .before .before .put-four .ensures limit)
+returns-2 c =
+    let start = c .before .before .before .before in
+    let after-if6 = start .before .before in
+    let after-if5 = after-if6 .before in
+    let start-2 = after-if5 .before .before .before in
+    λ limit. said (few-text 4 _ (four-digits (start)) (lit≤ tt) (after-if5 .if5 .taken) (eqb-true (start-2 .args .width) 4 (after-if6 .if6 .taken))) (c .before .before .put-four .ensures limit)
 
 returns-3 : tie.Need-returns-3
 returns-3 c = let a = c .before .before .before .before .before .before .before .args in λ limit. as-read (fillWith (a .zeros)) (a .width) (a .v) (c .before .before .before .before .before .before .before .fits .v) (c .before .before .put-decimal .ensures limit)
