@@ -19,9 +19,13 @@ returns-2 c = by-kind (λ s. c .before .before .before .before .before .before .
 returns-3 : tie.Need-returns-3
 unfolding eventsOf
 returns-3 c =
-    let p = c .before .before .before .before .before .before .before .before .before .before .before .args .piece in
-    by-kind (λ s. c .before .before .before .before .before .before .before .before .before .before .before .args .piece) _ _ (c .before .before .before .before .before .before .before .spec3 .given .1)
-    (fraction-run _ p _ _ (c .before .before .before .width-or .ensures ∙ ap (λ (n : ℕ). widthOr (p .width) n) (c .before .before .before .before .fraction-digits .ensures)) (c .before .before .fraction .ensures _ _))
+    let after-width-or = c .before .before .before in
+    let after-fraction-digits = after-width-or .before in
+    let after-spec3 = after-fraction-digits .before .before .before in
+    let start = after-spec3 .before .before .before .before in
+    let p = start .args .piece in
+    by-kind (λ s. start .args .piece) _ _ (after-spec3 .spec3 .given .1)
+    (fraction-run _ p _ _ (after-width-or .width-or .ensures ∙ ap (λ (n : ℕ). widthOr (p .width) n) (after-fraction-digits .fraction-digits .ensures)) (c .before .before .fraction .ensures _ _))
 
 returns-4 : tie.Need-returns-4
 unfolding eventsOf

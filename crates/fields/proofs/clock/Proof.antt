@@ -9,15 +9,6 @@ use Rattle.fields.proofs.Laws.{alone, held, failed, two-held, two-faile
 use Rattle.fields.proofs.clock.Statement.{statement}
 use Rattle.fields.proofs.clock.Tie as tie
 
-hour-requires : tie.Need-hour-requires
-hour-requires c κs = search needs
-
-minute-requires : tie.Need-minute-requires
-minute-requires c κs = search needs
-
-second-requires : tie.Need-second-requires
-second-requires c κs = search needs
-
 -- the outcome of the first two
 first-two : (c : tie.Joined1) (zone : List ℕ) → c .if1 .if2 ≡ allOk (hour ∷ minute ∷ []) (c .before .before .args .«record») zone
 first-two c zone =
@@ -35,4 +26,4 @@ returns-2 : tie.Need-returns-2
 returns-2 c zone = failed _ zone (hour ∷ minute ∷ []) (second ∷ []) (first-two (c .before) zone) (c .if2 .left)
 
 pub clock-spec : {M : Type 1} → statement M
-clock-spec = tie.close (tie.spec hour-requires minute-requires second-requires returns returns-2)
+clock-spec = tie.close (tie.spec (λ c κs. search needs) (λ c κs. search needs) (λ c κs. search needs) returns returns-2)

@@ -10,15 +10,6 @@ use Rattle.fields.proofs.Laws.{alone, held, failed}
 use Rattle.fields.proofs.date_time.Statement.{statement}
 use Rattle.fields.proofs.date_time.Tie as tie
 
-day-of-week-requires : tie.Need-day-of-week-requires
-day-of-week-requires c κs = search needs
-
-date-requires : tie.Need-date-requires
-date-requires c κs = search needs
-
-clock-requires : tie.Need-clock-requires
-clock-requires c κs = search needs
-
 -- the outcome of the first two
 first-two : (c : tie.Joined1) (zone : List ℕ) → c .if1 .if2 ≡ allOk (weekday ∷ month ∷ day ∷ []) (c .before .before .args .«record») zone
 first-two c zone =
@@ -40,4 +31,5 @@ returns-2 c zone =
     failed _ zone (weekday ∷ month ∷ day ∷ []) (hour ∷ minute ∷ second ∷ []) (first-two (c .before) zone) (c .if2 .left)
 
 pub date-time-spec : {M : Type 1} → statement M
-date-time-spec = tie.close (tie.spec day-of-week-requires date-requires clock-requires returns returns-2)
+date-time-spec =
+    tie.close (tie.spec (λ c κs. search needs) (λ c κs. search needs) (λ c κs. search needs) returns returns-2)

@@ -3,12 +3,6 @@ use borrow.Author.Needs.{needs}
 use Rattle.name_directive.proofs.byte_in.Statement.{statement}
 use Rattle.name_directive.proofs.byte_in.Tie as tie
 
-lower-requires : tie.Need-lower-requires
-lower-requires c κs = search needs
-
-upper-requires : tie.Need-upper-requires
-upper-requires c κs = search needs
-
 returns : tie.Need-returns
 returns c = rw (c .before .if1 .taken) (c .lower .ensures)
 
@@ -16,4 +10,4 @@ returns-2 : tie.Need-returns-2
 returns-2 c = rw (c .before .if1 .left) (c .upper .ensures)
 
 pub byte-in-spec : {M : Type 1} → statement M
-byte-in-spec = tie.close (tie.spec lower-requires upper-requires returns returns-2)
+byte-in-spec = tie.close (tie.spec (λ c κs. search needs) (λ c κs. search needs) returns returns-2)

@@ -5,12 +5,6 @@ use borrow.Author.Needs.{needs}
 use Rattle.number_directive.proofs.fraction_digits.Statement.{statement}
 use Rattle.number_directive.proofs.fraction_digits.Tie as tie
 
-enum-told : tie.Need-enum-told
-enum-told c = search needs
-
-enum-told-2 : tie.Need-enum-told-2
-enum-told-2 c = search needs
-
 returns : tie.Need-returns
 unfolding fractionDigits
 returns c = sym (ap fractionDigits (c .enum-told .given .1))
@@ -20,4 +14,4 @@ unfolding fractionDigits
 returns-2 c = sym (ap fractionDigits (c .enum-told2 .given .1))
 
 pub fraction-digits-spec : {M : Type 1} → statement M
-fraction-digits-spec = tie.close (tie.spec enum-told enum-told-2 returns returns-2)
+fraction-digits-spec = tie.close (tie.spec (λ c. search needs) (λ c. search needs) returns returns-2)

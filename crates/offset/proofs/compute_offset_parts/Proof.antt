@@ -8,15 +8,6 @@ use Rattle.offset.proofs.Laws.{hour-from}
 use Rattle.offset.proofs.compute_offset_parts.Statement.{statement}
 use Rattle.offset.proofs.compute_offset_parts.Tie as tie
 
-unsigned-abs-requires : tie.Need-unsigned-abs-requires
-unsigned-abs-requires c κs = search needs
-
-is-minus-requires : tie.Need-is-minus-requires
-is-minus-requires c κs = search needs
-
-signed-hour-requires : tie.Need-signed-hour-requires
-signed-hour-requires c κs = search needs
-
 returns : tie.Need-returns
 returns c =
     let s = c .before .before .before in
@@ -27,4 +18,5 @@ returns c =
     )
 
 pub compute-offset-parts-spec : {M : Type 1} → statement M
-compute-offset-parts-spec = tie.close (tie.spec unsigned-abs-requires is-minus-requires signed-hour-requires returns)
+compute-offset-parts-spec =
+    tie.close (tie.spec (λ c κs. search needs) (λ c κs. search needs) (λ c κs. search needs) returns)

@@ -7,9 +7,6 @@ use Rattle.offset.proofs.HourLaws.{signed-at}
 use Rattle.offset.proofs.signed_hour.Statement.{statement}
 use Rattle.offset.proofs.signed_hour.Tie as tie
 
-int-to-float-result : tie.Need-int-to-float-result
-int-to-float-result c = search needs
-
 returns : tie.Need-returns
 unfolding ofBits neg
 returns c =
@@ -21,4 +18,4 @@ returns c =
     (c .before .if1 .came)
 
 pub signed-hour-spec : {M : Type 1} → statement M
-signed-hour-spec = tie.close (tie.spec int-to-float-result returns)
+signed-hour-spec = tie.close (tie.spec (λ c. search needs) returns)

@@ -8,9 +8,14 @@ use Rattle.offset_directive.proofs.offset.Tie as tie
 
 returns : tie.Need-returns
 returns c =
-    let a = c .before .before .before .before .before .before .before .before .before .before .args in
+    let after-struct-told = c .before .before .before in
+    let after-contains = after-struct-told .before .before in
+    let after-is-spaces = after-contains .before .before in
+    let after-width-or = after-is-spaces .before in
+    let start = after-width-or .before .before in
+    let a = start .args in
     λ zone.
-    offset-run (a .offset) (a .piece) (a .«record») zone (c .before .before .before .before .before .before .before .is-spaces .ensures) (c .before .before .before .before .before .contains .ensures) (c .before .before .before .before .before .before .before .before .width-or .ensures) (toZ-ofZ w32 _ (record { sfits = c .before .before .before .struct-told .given .1 .1 .1 .1 .1 .1 .1 .1 .1 .1 .1 .0 .1 }))
+    offset-run (a .offset) (a .piece) (a .«record») zone (after-is-spaces .is-spaces .ensures) (after-contains .contains .ensures) (after-width-or .width-or .ensures) (toZ-ofZ w32 _ (record { sfits = after-struct-told .struct-told .given .1 .1 .1 .1 .1 .1 .1 .1 .1 .1 .1 .0 .1 }))
     (c .before .before .zone-offset .ensures)
 
 pub offset-spec : {M : Type 1} → statement M

@@ -9,12 +9,6 @@ use borrow.Author.Needs.{needs}
 use Rattle.offset_directive.proofs.plain_offset.Statement.{statement}
 use Rattle.offset_directive.proofs.plain_offset.Tie as tie
 
-zone-offset-requires : tie.Need-zone-offset-requires
-zone-offset-requires c κs = search needs
-
-same-length : tie.Need-same-length
-same-length c = search needs
-
 returns : tie.Need-returns
 returns c = let a = c .before .before .before .before .before .before .args in
     λ zone.
@@ -22,4 +16,4 @@ returns c = let a = c .before .before .before .before .before .before .args in
     (c .before .before .zone-offset .ensures)
 
 pub plain-offset-spec : {M : Type 1} → statement M
-plain-offset-spec = tie.close (tie.spec zone-offset-requires same-length returns)
+plain-offset-spec = tie.close (tie.spec (λ c κs. search needs) (λ c. search needs) returns)

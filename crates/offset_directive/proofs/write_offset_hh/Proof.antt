@@ -5,15 +5,9 @@ use borrow.Author.Needs.{needs}
 use Rattle.offset_directive.proofs.write_offset_hh.Statement.{statement}
 use Rattle.offset_directive.proofs.write_offset_hh.Tie as tie
 
-write-offset-hour-requires : tie.Need-write-offset-hour-requires
-write-offset-hour-requires c κs = search needs
-
-same-length : tie.Need-same-length
-same-length c = search needs
-
 returns : tie.Need-returns
 unfolding lengthOfForm
 returns c = hour-alone _ _ _ (c .before .before .write-offset-hour .ensures)
 
 pub write-offset-hh-spec : {M : Type 1} → statement M
-write-offset-hh-spec = tie.close (tie.spec write-offset-hour-requires same-length returns)
+write-offset-hh-spec = tie.close (tie.spec (λ c κs. search needs) (λ c. search needs) returns)

@@ -11,5 +11,4 @@ unfolding lengthOfForm partsText
 returns c = hour-then hhmm _ _ _ (c .before .before .before .before .before .before .write-offset-hour .ensures) (c .before .before .put-two .ensures _)
 
 pub write-offset-hhmm-spec : {M : Type 1} → statement M
-write-offset-hhmm-spec =
-    tie.close (tie.spec (λ c κs. search needs) (λ c κs. search needs) (λ c. search needs) returns)
+write-offset-hhmm-spec = tie.close (tie.spec (λ c κs. search needs) (λ c κs. search needs) (λ c. search needs) returns)

@@ -9,8 +9,12 @@ put-places-requires : tie.Need-put-places-requires
 put-places-requires c κs = room-kept (c .before .before .before .before .before .write-sign-and-pad .ensures) (c .before .before .before .before .before .before .before .before .before .before .pre .0)
 
 returns : tie.Need-returns
-returns c = (rw (c .before .before .before .before .before .before .before .before .before .before .before .saturating-sub .ensures) at (c .before .before .before .before .before .before .before .before .write-sign-and-pad .ensures))
-    then said (digits-counted _ (c .before .before .before .digit-count .ensures)) (c .before .before .put-places .ensures _)
+returns c =
+    let after-digit-count = c .before .before .before in
+    let after-write-sign-and-pad = after-digit-count .before .before .before .before .before in
+    let after-saturating-sub = after-write-sign-and-pad .before .before .before in
+    (rw (after-saturating-sub .saturating-sub .ensures) at (after-write-sign-and-pad .write-sign-and-pad .ensures))
+    then said (digits-counted _ (after-digit-count .digit-count .ensures)) (c .before .before .put-places .ensures _)
 
 pub write-offset-hour-spec : {M : Type 1} → statement M
 write-offset-hour-spec =

@@ -20,8 +20,11 @@ minutes c = two-is (c .before .before .before .before .before .before .args .min
 text : (c : tie.After-ones2) {form other : Form} {rest : List ℕ} → form ≡ other → rest ≡ partsText form (c .before .before .before .before .before .before .args .minute) (c .before .before .before .before .before .before .args .second)
     → c .before .before .before .before .hour-sign .result ∷ c .before .before .before .tens .result ∷ c .before .before .ones .result ∷ rest ≡ signOf (c .before .before .before .before .before .before .args .negative) ++ (two (c .before .before .before .before .before .before .args .hours) ++ partsText other (c .before .before .before .before .before .before .args .minute) (c .before .before .before .before .before .before .args .second))
 text c f p =
-    short-text (c .before .before .before .before .before .before .args .negative) (c .before .before .before .before .before .before .args .hours) (c .before .before .before .before .before .before .args .minute) (c .before .before .before .before .before .before .args .second) f (c .before .before .before .before .hour-sign .ensures)
-    (two-is (c .before .before .before .before .before .before .args .hours) (c .before .before .before .before .before .before .pre .1) (c .before .before .before .tens .ensures) (c .before .before .ones .ensures)) p
+    let after-tens = c .before .before .before in
+    let after-hour-sign = after-tens .before in
+    let start = after-hour-sign .before .before in
+    short-text (start .args .negative) (start .args .hours) (start .args .minute) (start .args .second) f (after-hour-sign .hour-sign .ensures)
+    (two-is (start .args .hours) (start .pre .1) (after-tens .tens .ensures) (c .before .before .ones .ensures)) p
 
 returns : tie.Need-returns
 unfolding lengthOfForm partsText

@@ -29,11 +29,17 @@ write-short-requires c κs = let small = small-parts _ _ _ (parts (c .before .be
     (c .before .before .before .before .before .before .before .before .pre .0, below-hundred (short (c .before .before)), small .minutes, small .seconds)
 
 returns : tie.Need-returns
-returns c = let a = c .before .before .before .before .before .before .before .before .before .before .before .args in
-    let e = parts (c .before .before .before .before .before .before .before .before .before) in
-    let told = told-length (c .before .before .before .before .before .before .before .before) in
+returns c =
+    let start = c .before .before .before .before .before in
+    let after-if1 = start .before .before in
+    let start-2 = after-if1 .before in
+    let after-offset-parts = start-2 .before in
+    let start-3 = after-offset-parts .before .before in
+    let a = start-3 .args in
+    let e = parts (after-offset-parts) in
+    let told = told-length (start-2) in
     of-offset _ _ _ e _ _ _
-    (short-run (formOf (a .offset) (a .utc-offset)) (a .width) (a .spaces) (c .before .before .before .before .before .before .before .before .before .offset-parts .result) told (short (c .before .before .before .before .before)) (place-is _ _ _ e) (c .before .before .before .before .before .before .before .if1 .taken)
+    (short-run (formOf (a .offset) (a .utc-offset)) (a .width) (a .spaces) (after-offset-parts .offset-parts .result) told (short (start)) (place-is _ _ _ e) (after-if1 .if1 .taken)
     (c .before .before .write-short .ensures _ _ told))
 
 write-long-requires : tie.Need-write-long-requires

@@ -3,12 +3,6 @@ use borrow.Author.Needs.{needs}
 use Rattle.reading.proofs.enter.Statement.{statement}
 use Rattle.reading.proofs.enter.Tie as tie
 
-enum-known-entry : tie.Need-enum-known-entry
-enum-known-entry c = search needs
-
-enum-told : tie.Need-enum-told
-enum-told c = search needs
-
 returns : tie.Need-returns
 returns c = rw (c .enum-told .given .1)
 
@@ -16,4 +10,4 @@ returns-2 : tie.Need-returns-2
 returns-2 c = rw (c .before .before .entry .given .1)
 
 pub enter-spec : {M : Type 1} → statement M
-enter-spec = tie.close (tie.spec enum-known-entry enum-told returns returns-2)
+enter-spec = tie.close (tie.spec (λ c. search needs) (λ c. search needs) returns returns-2)

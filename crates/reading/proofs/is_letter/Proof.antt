@@ -8,9 +8,6 @@ use Rattle.reading.proofs.Laws.{never, letter-first}
 use Rattle.reading.proofs.is_letter.Statement.{statement}
 use Rattle.reading.proofs.is_letter.Tie as tie
 
-is-digit-requires : tie.Need-is-digit-requires
-is-digit-requires c κs = search needs
-
 returns : tie.Need-returns
 returns c low o =
     let none = c .before .before .before .match .rest .1 in
@@ -35,4 +32,4 @@ returns-4 : tie.Need-returns-4
 returns-4 c holds = never holds
 
 pub is-letter-spec : {M : Type 1} → statement M
-is-letter-spec = tie.close (tie.spec is-digit-requires returns returns-2 returns-3 returns-4)
+is-letter-spec = tie.close (tie.spec (λ c κs. search needs) returns returns-2 returns-3 returns-4)

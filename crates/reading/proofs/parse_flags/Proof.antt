@@ -24,15 +24,24 @@ width-with-requires c κs = sym (c .before .is-digit .ensures) ∙ c .if1 .taken
 
 returns : tie.Need-returns Inv-loop μ-loop
 returns c =
+    let after-is-digit = c .before .before .before in
+    let after-enum-told = after-is-digit .before in
+    let after-flag-step = after-enum-told .before .before in
+    let after-loop-test = after-flag-step .before .before in
+    let after-loop = after-loop-test .before in
     c .parse-width .ensures
-    ∙ by-turn _ _ _ (c .before .before .before .before .before .before .before .before .loop-test .taken) _ (flags-digit _ _ _ (c .before .before .before .before .before .before .flag-step .ensures) (c .before .before .before .before .enum-told .given .1) (sym (c .before .before .before .is-digit .ensures) ∙ c .before .before .if1 .taken) _ (c .before .width-with .ensures))
-    ∙ c .before .before .before .before .before .before .before .before .before .loop .inv
+    ∙ by-turn _ _ _ (after-loop-test .loop-test .taken) _ (flags-digit _ _ _ (after-flag-step .flag-step .ensures) (after-enum-told .enum-told .given .1) (sym (after-is-digit .is-digit .ensures) ∙ c .before .before .if1 .taken) _ (c .before .width-with .ensures))
+    ∙ after-loop .loop .inv
 
 returns-2 : tie.Need-returns-2 Inv-loop μ-loop
 returns-2 c =
+    let after-enum-told = c .before .before .before in
+    let after-flag-step = after-enum-told .before .before in
+    let after-loop-test = after-flag-step .before .before in
+    let after-loop = after-loop-test .before in
     c .parse-letter .ensures
-    ∙ by-turn _ _ _ (c .before .before .before .before .before .before .before .loop-test .taken) _ (flags-letter _ _ _ (c .before .before .before .before .before .flag-step .ensures) (c .before .before .before .enum-told .given .1) (sym (c .before .before .is-digit .ensures) ∙ c .before .if1 .left))
-    ∙ c .before .before .before .before .before .before .before .before .loop .inv
+    ∙ by-turn _ _ _ (after-loop-test .loop-test .taken) _ (flags-letter _ _ _ (after-flag-step .flag-step .ensures) (after-enum-told .enum-told .given .1) (sym (c .before .before .is-digit .ensures) ∙ c .before .if1 .left))
+    ∙ after-loop .loop .inv
 
 loop-again : tie.Need-loop-again Inv-loop μ-loop
 loop-again c = by-turn _ _ _ (c .before .before .before .before .before .loop-test .taken) _ (flags-flag _ _ _ (c .before .before .before .flag-step .ensures) _ (c .before .more .given .1)) ∙ c .before .before .before .before .before .before .loop .inv

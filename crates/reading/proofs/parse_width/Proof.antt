@@ -33,9 +33,13 @@ returns c =
 
 returns-2 : tie.Need-returns-2 Inv-loop μ-loop
 returns-2 c =
+    let after-if1 = c .before .before .before in
+    let after-is-digit = after-if1 .before in
+    let after-loop-test = after-is-digit .before .before in
+    let after-loop = after-loop-test .before in
     c .parse-letter .ensures
-    ∙ by-turn _ _ _ (c .before .before .before .before .before .before .loop-test .taken) _ (width-letter _ _ _ (sym (c .before .before .before .before .is-digit .ensures) ∙ c .before .before .before .if1 .left) (sym (c .before .before .too-wide .ensures) ∙ c .before .if2 .left))
-    ∙ c .before .before .before .before .before .before .before .loop .inv
+    ∙ by-turn _ _ _ (after-loop-test .loop-test .taken) _ (width-letter _ _ _ (sym (after-is-digit .is-digit .ensures) ∙ after-if1 .if1 .left) (sym (c .before .before .too-wide .ensures) ∙ c .before .if2 .left))
+    ∙ after-loop .loop .inv
 
 returns-3 : tie.Need-returns-3 Inv-loop μ-loop
 unfolding open?

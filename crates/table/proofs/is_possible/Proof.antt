@@ -9,5 +9,4 @@ returns : tie.Need-returns
 returns c = c .is-among .ensures ∙ of-table _ _ _ (c .before .before .possible-specs .ensures .0)
 
 pub is-possible-spec : {M : Type 1} → statement M
-is-possible-spec =
-    tie.close (tie.spec (λ c κs. search needs) (λ c. search needs) (λ c κs. search needs) returns)
+is-possible-spec = tie.close (tie.spec (λ c κs. search needs) (λ c. search needs) (λ c κs. search needs) returns)

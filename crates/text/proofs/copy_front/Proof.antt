@@ -14,11 +14,8 @@ slice-aggregate-copy c = sym (length-take-le _ _ (c .before .before .before .bef
 copy-requires : tie.Need-copy-requires
 copy-requires c κs = simp length-take (omega arith)
 
-same-length : tie.Need-same-length
-same-length c = search needs
-
 returns : tie.Need-returns
 returns c = c .before .before .copy .ensures ∙ overlay-taken _ _ _ (c .before .before .before .before .before .before .before .pre .1) (c .before .before .before .before .before .before .before .pre .0)
 
 pub copy-front-spec : {M : Type 1} → statement M
-copy-front-spec = tie.close (tie.spec slice-aggregate-copy copy-requires same-length returns)
+copy-front-spec = tie.close (tie.spec slice-aggregate-copy copy-requires (λ c. search needs) returns)

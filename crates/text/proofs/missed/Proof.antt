@@ -29,5 +29,4 @@ returns-3 c =
     clipped (put-refused limit (a .room) t (a .at) _ (c .before .before .before .if1 .left) (omega arith) (c .refused .ensures .0)) (omega (arith, reach-no _ (c .refused .ensures .0))) b
 
 pub missed-spec : {M : Type 1} → statement M
-missed-spec =
-    tie.close (tie.spec returns (λ c κs. search needs) add-result returns-2 (λ c κs. search needs) returns-3)
+missed-spec = tie.close (tie.spec returns (λ c κs. search needs) add-result returns-2 (λ c κs. search needs) returns-3)

@@ -19,10 +19,13 @@ add-result c = let k = sym (c .before .before .before .before .before .fits2 .en
 
 returns : tie.Need-returns
 returns c =
-    let a = c .before .before .before .before .before .before .before .args in
-    let k = fits-yes _ _ (c .before .before .before .before .before .fits2 .ensures) (c .before .before .before .before .if1 .taken) in
+    let after-if1 = c .before .before .before .before in
+    let after-fits2 = after-if1 .before in
+    let start = after-fits2 .before .before in
+    let a = start .args in
+    let k = fits-yes _ _ (after-fits2 .fits2 .ensures) (after-if1 .if1 .taken) in
     let e = length-places (a .count) (a .v) in
-    λ limit. placed (overlay-between _ _ _ _ e k (c .before .before .write-places .ensures)) (ap (λ (n : ℕ). a .at + n) (sym e)) k (c .before .before .before .before .before .before .before .pre)
+    λ limit. placed (overlay-between _ _ _ _ e k (c .before .before .write-places .ensures)) (ap (λ (n : ℕ). a .at + n) (sym e)) k (start .pre)
 
 returns-2 : tie.Need-returns-2
 returns-2 c = c .before .before .places-short .ensures

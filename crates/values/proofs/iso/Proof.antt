@@ -21,5 +21,4 @@ returns-2 : tie.Need-returns-2
 returns-2 c = not-in-week _ (c .before .week .ensures) (c .if1 .left)
 
 pub iso-spec : {M : Type 1} → statement M
-iso-spec =
-    tie.close (tie.spec (λ c κs. search needs) iso-8601-year-and-week-number-requires returns returns-2)
+iso-spec = tie.close (tie.spec (λ c κs. search needs) iso-8601-year-and-week-number-requires returns returns-2)

@@ -8,11 +8,8 @@ use Rattle.values.proofs.Laws.{renumbered}
 use Rattle.values.proofs.spaces.Statement.{statement}
 use Rattle.values.proofs.spaces.Tie as tie
 
-cast-t3 : tie.Need-cast-t3
-cast-t3 c = search needs
-
 returns : tie.Need-returns
 returns c = renumbered (toZ-pos w64 (c .args .number) (omega arith)) (record { is = refl; narrow = omega arith })
 
 pub spaces-spec : {M : Type 1} → statement M
-spaces-spec = tie.close (tie.spec cast-t3 returns)
+spaces-spec = tie.close (tie.spec (λ c. search needs) returns)

@@ -4,9 +4,6 @@ use Rattle.values.proofs.Laws.{week-range, in-week, not-in-week}
 use Rattle.values.proofs.week_of.Statement.{statement}
 use Rattle.values.proofs.week_of.Tie as tie
 
-week-requires : tie.Need-week-requires
-week-requires c κs = search needs
-
 week-number-requires : tie.Need-week-number-requires
 week-number-requires c κs = week-range _ (in-week _ (c .before .week .ensures) (c .if1 .taken))
 
@@ -17,4 +14,4 @@ returns-2 : tie.Need-returns-2
 returns-2 c = not-in-week _ (c .before .week .ensures) (c .if1 .left)
 
 pub week-of-spec : {M : Type 1} → statement M
-week-of-spec = tie.close (tie.spec week-requires week-number-requires returns returns-2)
+week-of-spec = tie.close (tie.spec (λ c κs. search needs) week-number-requires returns returns-2)

@@ -4,14 +4,8 @@ use Rattle.values.proofs.Laws.{weekly}
 use Rattle.values.proofs.weekly.Statement.{statement}
 use Rattle.values.proofs.weekly.Tie as tie
 
-week-requires : tie.Need-week-requires
-week-requires c κs = search needs
-
-zeros-requires : tie.Need-zeros-requires
-zeros-requires c κs = search needs
-
 returns : tie.Need-returns
 returns c = weekly (c .before .week .ensures) (c .zeros .ensures)
 
 pub weekly-spec : {M : Type 1} → statement M
-weekly-spec = tie.close (tie.spec week-requires zeros-requires returns)
+weekly-spec = tie.close (tie.spec (λ c κs. search needs) (λ c κs. search needs) returns)

@@ -13,9 +13,6 @@ use Rattle.values.proofs.Laws.{renumbered}
 use Rattle.values.proofs.year.Statement.{statement}
 use Rattle.values.proofs.year.Tie as tie
 
-year-width-requires : tie.Need-year-width-requires
-year-width-requires c κs = search needs
-
 width-is : (c : tie.After-year-width) → c .year-width .result ≡ yearWidth (c .before .args .year)
 width-is c = c .year-width .ensures ∙ ap yearWidth (toZ-ofZ w64 _ (c .before .fits .year))
 
@@ -29,4 +26,4 @@ returns c =
     (renumbered (toZ-ofZ w64 _ (s .fits .year)) (c .wide .ensures))
 
 pub year-spec : {M : Type 1} → statement M
-year-spec = tie.close (tie.spec year-width-requires wide-requires returns)
+year-spec = tie.close (tie.spec (λ c κs. search needs) wide-requires returns)

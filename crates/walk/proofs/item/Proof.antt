@@ -8,14 +8,18 @@ use Rattle.walk.proofs.item.Tie as tie
 
 returns : tie.Need-returns
 returns c =
-    let s = c .before .before .before .before .before .before .before .before .before in
-    let found = c .before .before .before .before .before .two-at .ensures (c .before .before .before .before .if1 .taken) in
+    let after-if1 = c .before .before .before .before in
+    let after-two-at = after-if1 .before in
+    let s = after-two-at .before .before .before .before in
+    let found = after-two-at .two-at .ensures (after-if1 .if1 .taken) in
     step-two _ (s .pre .3) (found .0) (found .1) refl (s .pre .1) (c .before .before .put-two .ensures _)
 
 returns-3 : tie.Need-returns-3
 returns-3 c =
-    let s = c .before .before .before .before .before .before .before .before .before .before .before .before .before in
-    let found = c .before .before .before .before .before .before .before .letter-at .ensures _ (c .before .before .before .before .before .entry .given .1) in
+    let after-entry = c .before .before .before .before .before in
+    let after-letter-at = after-entry .before .before in
+    let s = after-letter-at .before .before .before .before .before .before in
+    let found = after-letter-at .letter-at .ensures _ (after-entry .entry .given .1) in
     step-letter _ _ (s .pre .3) (found .0) (found .1) refl (c .before .before .plain-directive .ensures)
 
 pub item-spec : {M : Type 1} → statement M

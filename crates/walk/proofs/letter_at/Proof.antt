@@ -5,12 +5,6 @@ use borrow.Author.Needs.{needs}
 use Rattle.walk.proofs.letter_at.Statement.{statement}
 use Rattle.walk.proofs.letter_at.Tie as tie
 
-shared-slice-read-spec-of : tie.Need-shared-slice-read-spec-of
-shared-slice-read-spec-of c = search needs
-
-spec-of-requires : tie.Need-spec-of-requires
-spec-of-requires c κs = search needs
-
 returns : tie.Need-returns
 returns c = λ spec e. (c .before .before .if1 .taken, sym (c .spec-of .ensures) ∙ e)
 
@@ -18,4 +12,4 @@ returns-2 : tie.Need-returns-2
 returns-2 c = λ spec e. none-there spec e
 
 pub letter-at-spec : {M : Type 1} → statement M
-letter-at-spec = tie.close (tie.spec shared-slice-read-spec-of spec-of-requires returns returns-2)
+letter-at-spec = tie.close (tie.spec (λ c. search needs) (λ c κs. search needs) returns returns-2)

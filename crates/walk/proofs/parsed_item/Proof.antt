@@ -23,16 +23,20 @@ put-part-requires c κs =
 
 returns-2 : tie.Need-returns-2
 returns-2 c =
-    let s = c .before .before .before .before .before .before .before .before .before .before .before .before in
-    step-echo _ _ (items-at _ _ .percent (s .pre .2) (s .pre .3) _ (sym (c .before .before .before .before .before .before .before .before .parsed-at .ensures) ∙ c .before .before .before .before .before .parsed2 .given .1)) (c .before .before .put-part .ensures _)
+    let after-parsed2 = c .before .before .before .before .before in
+    let after-parsed-at = after-parsed2 .before .before .before in
+    let s = after-parsed-at .before .before .before .before in
+    step-echo _ _ (items-at _ _ .percent (s .pre .2) (s .pre .3) _ (sym (after-parsed-at .parsed-at .ensures) ∙ after-parsed2 .parsed2 .given .1)) (c .before .before .put-part .ensures _)
 
 directive-requires : tie.Need-directive-requires
 directive-requires c κs = let s = c .before .before .before .before .before .before .before .before in (s .pre .0, s .pre .1)
 
 returns-3 : tie.Need-returns-3
 returns-3 c =
-    let s = c .before .before .before .before .before .before .before .before .before .before .before in
-    step-directive _ _ (items-at _ _ .percent (s .pre .2) (s .pre .3) _ (sym (c .before .before .before .before .before .before .before .parsed-at .ensures) ∙ c .before .before .before .before .before .parsed .given .1)) (c .before .before .directive .ensures)
+    let after-parsed = c .before .before .before .before .before in
+    let after-parsed-at = after-parsed .before .before in
+    let s = after-parsed-at .before .before .before .before in
+    step-directive _ _ (items-at _ _ .percent (s .pre .2) (s .pre .3) _ (sym (after-parsed-at .parsed-at .ensures) ∙ after-parsed .parsed .given .1)) (c .before .before .directive .ensures)
 
 pub parsed-item-spec : {M : Type 1} → statement M
 parsed-item-spec =

@@ -42,7 +42,11 @@ loop-less-2 c =
 
 loop-again-2 : tie.Need-loop-again-2 Inv-loop μ-loop
 loop-again-2 c =
-    walk-literals (c .before .before .before .before .before .before .before .before .loop .inv) (items-at _ _ .run (c .before .before .before .before .before .before .before .loop-test .taken) (c .before .before .before .before .before .if1 .left) _ (c .before .before .before .before .literal-end .ensures)) (c .before .before .put-part .ensures _)
+    let after-literal-end = c .before .before .before .before in
+    let after-if1 = after-literal-end .before in
+    let after-loop-test = after-if1 .before .before in
+    let after-loop = after-loop-test .before in
+    walk-literals (after-loop .loop .inv) (items-at _ _ .run (after-loop-test .loop-test .taken) (after-if1 .if1 .left) _ (after-literal-end .literal-end .ensures)) (c .before .before .put-part .ensures _)
 
 same-length : tie.Need-same-length Inv-loop μ-loop
 same-length c = kept (c .before .loop .inv .ran)

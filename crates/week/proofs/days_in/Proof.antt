@@ -9,9 +9,6 @@ use Rattle.rules.specs.Week.{isLeap, daysIn}
 use Rattle.week.proofs.days_in.Statement.{statement}
 use Rattle.week.proofs.days_in.Tie as tie
 
-is-leap-year-requires : tie.Need-is-leap-year-requires
-is-leap-year-requires c κs = search needs
-
 days : (c : tie.After-is-leap-year) {b : Bool} → c .is-leap-year .result ≡ b → cond b 366 365 ≡ daysIn (c .before .args .year)
 unfolding daysIn
 days c e = ap (λ (b : Bool). cond {A = ℕ} b 366 365) (sym e ∙ c .is-leap-year .ensures ∙ ap isLeap (toZ-ofZ w64 _ (c .before .fits .year)))
@@ -23,4 +20,4 @@ returns-2 : tie.Need-returns-2
 returns-2 c = days (c .before) (c .if1 .left)
 
 pub days-in-spec : {M : Type 1} → statement M
-days-in-spec = tie.close (tie.spec is-leap-year-requires returns returns-2)
+days-in-spec = tie.close (tie.spec (λ c κs. search needs) returns returns-2)

@@ -4,14 +4,8 @@ use Rattle.lines.proofs.Laws.{not-so}
 use Rattle.lines.proofs.number.has_byte.Statement.{statement}
 use Rattle.lines.proofs.number.has_byte.Tie as tie
 
-shared-slice-read-result : tie.Need-shared-slice-read-result
-shared-slice-read-result c = search needs
-
-returns : tie.Need-returns
-returns c = search needs
-
 returns-2 : tie.Need-returns-2
 returns-2 c = λ e. not-so e
 
 pub has-byte-spec : {M : Type 1} → statement M
-has-byte-spec = tie.close (tie.spec shared-slice-read-result returns returns-2)
+has-byte-spec = tie.close (tie.spec (λ c. search needs) (λ c. search needs) returns-2)

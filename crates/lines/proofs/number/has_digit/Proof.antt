@@ -7,14 +7,8 @@ use Rattle.lines.proofs.number.has_digit.Tie as tie
 returns : tie.Need-returns
 returns c = λ e. not-so e
 
-shared-slice-read-byte : tie.Need-shared-slice-read-byte
-shared-slice-read-byte c = search needs
-
 returns-2 : tie.Need-returns-2
 returns-2 c = λ e. not-so e
 
-returns-3 : tie.Need-returns-3
-returns-3 c = search needs
-
 pub has-digit-spec : {M : Type 1} → statement M
-has-digit-spec = tie.close (tie.spec returns shared-slice-read-byte returns-2 returns-3)
+has-digit-spec = tie.close (tie.spec returns (λ c. search needs) returns-2 (λ c. search needs))

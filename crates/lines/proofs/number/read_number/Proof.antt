@@ -20,5 +20,4 @@ returns-2 : tie.Need-returns-2
 returns-2 c = record { holds = tt }
 
 pub read-number-spec : {M : Type 1} → statement M
-read-number-spec =
-    tie.close (tie.spec has-byte-requires add-read-digits read-digits-requires returns returns-2)
+read-number-spec = tie.close (tie.spec has-byte-requires add-read-digits read-digits-requires returns returns-2)

@@ -22,7 +22,10 @@ returns-3 : tie.Need-returns-3
 returns-3 c = record { holds = tt }
 
 cast-record : tie.Need-cast-record
-cast-record c = small (c .before .before .before .before .before .before .before .before .before .year .given .0 .0) (told (c .before .before .before .before .before .before .before .before .before .before .before .read-signed .ensures) (c .before .before .before .before .before .before .before .before .before .year .given .1) .0)
+cast-record c =
+    let after-year = c .before .before .before .before .before .before .before .before .before in
+    let after-read-signed = after-year .before .before in
+    small (after-year .year .given .0 .0) (told (after-read-signed .read-signed .ensures) (after-year .year .given .1) .0)
 
 cast-record-2 : tie.Need-cast-record-2
 cast-record-2 c = omega (arith, told (c .before .before .before .before .before .before .before .read-number .ensures) (c .before .before .before .before .before .month .given .1))

@@ -6,15 +6,6 @@ use Rattle.rules.specs.Reading.{withFlag}
 use Rattle.rules.proofs.Flags.set.Statement.{statement}
 use Rattle.rules.proofs.Flags.set.Tie as tie
 
-enum-told : tie.Need-enum-told
-enum-told c = search needs
-
-enum-told-2 : tie.Need-enum-told-2
-enum-told-2 c = search needs
-
-enum-told-3 : tie.Need-enum-told-3
-enum-told-3 c = search needs
-
 returns : tie.Need-returns
 returns c = sym (ap (λ (flag : Flag). withFlag (c .before .before .args .self) flag) (c .enum-told .given .1))
 
@@ -25,4 +16,4 @@ returns-3 : tie.Need-returns-3
 returns-3 c = sym (ap (λ (flag : Flag). withFlag (c .before .before .args .self) flag) (c .enum-told3 .given .1))
 
 pub set-spec : {M : Type 1} → statement M
-set-spec = tie.close (tie.spec enum-told enum-told-2 enum-told-3 returns returns-2 returns-3)
+set-spec = tie.close (tie.spec (λ c. search needs) (λ c. search needs) (λ c. search needs) returns returns-2 returns-3)

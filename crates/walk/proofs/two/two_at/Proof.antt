@@ -11,5 +11,4 @@ returns-2 : tie.Need-returns-2
 returns-2 c small = absurd (omega arith)
 
 pub two-at-spec : {M : Type 1} → statement M
-two-at-spec =
-    tie.close (tie.spec (λ c. search needs) (λ c. search needs) (λ c κs. search needs) returns returns-2)
+two-at-spec = tie.close (tie.spec (λ c. search needs) (λ c. search needs) (λ c κs. search needs) returns returns-2)
