@@ -1,35 +1,56 @@
 // Added to the original: what the programs say, and an answer by the refusal table of paper 01.
+// `text` and `number` go to standard output, `error` and `error_number` to standard error, and what ends in `_to` to a descriptor.
+mod escape;
+
+pub use escape::escaped_to;
 ghost use mathlib.Core.Path.{_≡_};
 ghost use Rattle.rules.specs.Refusal.{numbered};
+use libc::STDERR_FILENO;
 use libc::STDOUT_FILENO;
 use rules::Answer;
 use rules::Refusal;
 
+pub fn text_to(fd: i32, text: &[u8]) {
+    io::write_all(fd, text);
+}
+
+pub fn number_to(fd: i32, number: u64) {
+    io::print_decimal(fd, number);
+}
+
 pub fn text(text: &[u8]) {
-    io::write_all(STDOUT_FILENO, text);
+    text_to(STDOUT_FILENO, text);
 }
 
 pub fn number(number: u64) {
-    io::print_decimal(STDOUT_FILENO, number);
+    number_to(STDOUT_FILENO, number);
 }
 
-fn name(refusal: Refusal) {
+pub fn error(text: &[u8]) {
+    text_to(STDERR_FILENO, text);
+}
+
+pub fn error_number(number: u64) {
+    number_to(STDERR_FILENO, number);
+}
+
+fn name_to(fd: i32, refusal: Refusal) {
     match refusal {
-        Refusal::InvalidTime => text(b"InvalidTime"),
-        Refusal::InvalidFormatString => text(b"InvalidFormatString"),
-        Refusal::FormattedStringTooLarge => text(b"FormattedStringTooLarge"),
-        Refusal::WriteZero => text(b"WriteZero"),
-        Refusal::InputTooLong => text(b"InputTooLong"),
-        Refusal::NoBuffer => text(b"NoBuffer"),
+        Refusal::InvalidTime => text_to(fd, b"InvalidTime"),
+        Refusal::InvalidFormatString => text_to(fd, b"InvalidFormatString"),
+        Refusal::FormattedStringTooLarge => text_to(fd, b"FormattedStringTooLarge"),
+        Refusal::WriteZero => text_to(fd, b"WriteZero"),
+        Refusal::InputTooLong => text_to(fd, b"InputTooLong"),
+        Refusal::NoBuffer => text_to(fd, b"NoBuffer"),
     }
 }
 
 // A refusal's number and name.
-pub fn refusal(refusal: Refusal) {
-    text(b"refusal ");
-    number(rules::number_of(refusal) as u64);
-    text(b", ");
-    name(refusal);
+pub fn refusal_to(fd: i32, refusal: Refusal) {
+    text_to(fd, b"refusal ");
+    number_to(fd, rules::number_of(refusal) as u64);
+    text_to(fd, b", ");
+    name_to(fd, refusal);
 }
 
 pub fn answer_number(answer: Answer) -> u64

@@ -1,89 +1,72 @@
 // Where a format is refused, and why.
-ghost use Prim.Native.Nat.{_≤_, _<_};
+ghost use Prim.Native.Nat.{_≤_};
 ghost use lib.ListN.{length};
-ghost use Rattle.stamp.specs.Within.{ItemWithin};
+ghost use Rattle.stamp.specs.Items.{PlaceWithin};
+use crate::item::item_at;
+use crate::item::say_item_to;
 use crate::sample::stamp;
-use cursor::parsed_at;
+use libc::STDERR_FILENO;
 use rules::Answer;
-use rules::Parsed;
 use rules::Refusal;
 
-// A directive, an echo or a plain byte: from where to where it stands in the format.
-enum Item {
+// From where to where an item stands in the format.
+enum Place {
     At(usize, usize),
     Nowhere,
 }
 
-// Where the item ends that begins at `at`.
-fn item_end(format: &[u8], at: usize) -> usize
-    requires { ⌜ at < length (now format) ⌝ }
-    ensures { λ r. ⌜ (at < r) × (r ≤ length (now (format .entry))) ⌝ }
-{
-    if format[at] != b'%' {
-        return at + 1;
-    }
-    match parsed_at(format, at + 1) {
-        Parsed::Directive(_, next) => next,
-        Parsed::Echo(next) => next,
-        Parsed::Cut => format.len(),
-    }
-}
-
 // The last item of the shortest front of the format that is refused. A front is made of whole items.
-fn refused_item(format: &[u8], buffer: &mut [u8]) -> Item
-    ensures { λ r. ⌜ ItemWithin (length (now (format .entry))) r ⌝ }
+fn refused_item(format: &[u8], buffer: &mut [u8]) -> Place
+    ensures { λ r. ⌜ PlaceWithin (length (now (format .entry))) r ⌝ }
 {
     let mut at = 0;
     while at < format.len() {
-        let end = item_end(format, at);
+        let item = item_at(format, at);
+        let end = item.end;
         if let Answer::Refused(_) = stamp(&format[..end], buffer) {
-            return Item::At(at, end);
+            return Place::At(at, end);
         }
         at = end;
     }
-    Item::Nowhere
+    Place::Nowhere
 }
 
 fn say_why(refusal: Refusal, format: &[u8])
     requires { ⌜ length (now format) ≤ 4096 ⌝ }
 {
     match refusal {
-        Refusal::InvalidTime => say::text(b" reads a field that is out of its range"),
-        Refusal::InvalidFormatString => say::text(b" is cut off by the end of the format"),
+        Refusal::InvalidTime => say::error(b" reads a field that is out of its range"),
+        Refusal::InvalidFormatString => say::error(b" is cut off by the end of the format"),
         Refusal::FormattedStringTooLarge => {
-            say::text(b" asks for a pad that would pass the size limit of ");
-            say::number(format.len() as u64 * 524288);
-            say::text(b" bytes");
+            say::error(b" asks for a pad that would pass the size limit of ");
+            say::error_number(format.len() as u64 * 524288);
+            say::error(b" bytes");
         }
-        Refusal::WriteZero => say::text(b" has no room in a buffer of 65536 bytes"),
-        _ => say::text(b" is refused"),
+        Refusal::WriteZero => say::error(b" has no room in a buffer of 65536 bytes"),
+        _ => say::error(b" is refused"),
     }
 }
 
-fn say_item(refusal: Refusal, format: &[u8], buffer: &mut [u8])
+fn say_place(refusal: Refusal, format: &[u8], buffer: &mut [u8])
     requires { ⌜ length (now format) ≤ 4096 ⌝ }
 {
-    let Item::At(start, end) = refused_item(format, buffer) else {
-        say::text(b"no front of the format is refused\n");
+    let Place::At(start, end) = refused_item(format, buffer) else {
+        say::error(b"no front of the format is refused\n");
         return;
     };
-    say::text(b"`");
-    say::text(&format[start..end]);
-    say::text(b"`, from byte ");
-    say::number(start as u64 + 1);
-    say::text(b" of the format on,");
+    say_item_to(STDERR_FILENO, format, start, end);
     say_why(refusal, format);
-    say::text(b"\n");
+    say::error(b"\n");
 }
 
 pub fn explain(refusal: Refusal, format: &[u8], buffer: &mut [u8]) {
-    say::refusal(refusal);
-    say::text(b": ");
+    say::refusal_to(STDERR_FILENO, refusal);
+    say::error(b": ");
     if format.len() > 4096 {
-        say::text(b"the format has ");
-        say::number(format.len() as u64);
-        say::text(b" bytes, and 4096 are the most\n");
+        say::error(b"the format has ");
+        say::error_number(format.len() as u64);
+        say::error(b" bytes, and 4096 are the most\n");
         return;
     }
-    say_item(refusal, format, buffer);
+    say_place(refusal, format, buffer);
 }

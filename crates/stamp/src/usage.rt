@@ -1,12 +1,27 @@
 // How the program is used. The table of directives is stamped too, so each stands beside what it gives.
 use crate::sample::stamp;
+use crate::show::show;
 use rules::Answer;
+
+pub fn say_version() {
+    say::text(b"groatsaddle 0.1.0: the formatter of strftime-ruby in Rattle, proved\n");
+}
 
 fn say_line(format: &[u8]) {
     let mut buffer = [0u8; 128];
     if let Answer::Done(bytes) = stamp(format, &mut buffer) {
         say::text(say::front(&buffer, bytes));
     }
+}
+
+fn say_use() {
+    say::text(b"usage: stamp FORMAT\n       stamp --help\n       stamp --version\n");
+    say_line(b"Prints %A %F %T.%N, day %j, zone %Z, %:z, as FORMAT says,\n");
+    say::text(b"and the bytes that FORMAT needs for any time. Every word but the two above is a\n");
+    say::text(b"format, also one that begins with two dashes, as --%d.\n\n");
+    say::text(b"$ stamp '%A, %-d %B %Y'\n");
+    show(b"%A, %-d %B %Y");
+    say::text(b"\n");
 }
 
 fn say_dates() {
@@ -33,10 +48,17 @@ fn say_others() {
     );
 }
 
+fn say_rest() {
+    say::text(b"\nWhat is no directive, as %Q, is written as it stands, and a line says so.\n");
+    say::text(
+        b"A refusal goes to standard error. include/groatsaddle.h has the table of refusals.\n",
+    );
+}
+
 pub fn say_usage() {
-    say::text(b"usage: stamp FORMAT\n");
-    say_line(b"The time is %A %F %T.%N, day %j, zone %Z, %:z.\n");
+    say_use();
     say_dates();
     say_times();
     say_others();
+    say_rest();
 }
