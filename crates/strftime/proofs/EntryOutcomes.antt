@@ -1,9 +1,11 @@
 -- What the entry answers, and the buffer afterwards, for each way through it.
 use mathlib.Core.Path.{_≡_, refl, sym, ap, subst, _∙_}
+use mathlib.Core.Bool.{Bool, true, false}
 use mathlib.Core.List.{List, _++_}
 use Prim.Native.Nat.{ℕ, _/_, _≤_, _<_}
 use native.Mathlib.Omega.{arith}
-use lib.Dec.{lit≤}
+use lib.Dec.{ltb, lit≤}
+use borrow.Author.Tests.{ltb-true, ltb-false}
 use lib.ListN.{length, take, drop}
 use Rattle.rules.specs.declared.Refusal.{Refusal}
 use Rattle.rules.specs.declared.Refusal.the-variants.{InputTooLong}
@@ -25,6 +27,13 @@ Promised outcome before answer after = (numbered answer ≡ reported outcome) ×
 pub declined : (before : List ℕ) {outcome : Outcome} → outcome ≡ refused 5 → Promised outcome before (Refused InputTooLong) before
 unfolding numbered numberOf reported bufferAfter
 declined before e = rw e (refl, refl)
+
+-- what the test of a place tells
+pub refused-yes : (n : ℕ) {b : Bool} → b ≡ ltb longestBuffer n → b ≡ true → longestBuffer < n
+refused-yes n e t = ltb-true longestBuffer n (sym e ∙ t)
+
+pub refused-no : (n : ℕ) {b : Bool} → b ≡ ltb longestBuffer n → b ≡ false → n ≤ longestBuffer
+refused-no n e t = ltb-false longestBuffer n (sym e ∙ t)
 
 module _ {limit room : ℕ} {es : List Event} {l l′ : List ℕ} {n : ℕ} (w : Ran limit room es l 0 l′ n) where
   -- a refusal's number is one that an event gives
