@@ -20,5 +20,4 @@ returns : tie.Need-returns
 returns c = size-is c
 
 pub unsigned-abs-spec : {M : Type 1} → statement M
-unsigned-abs-spec =
-    tie.close (tie.spec cast-unsigned-abs64 (λ c κs. search needs) cast-result returns)
+unsigned-abs-spec = tie.close (tie.spec cast-unsigned-abs64 (λ c κs. search needs) cast-result returns)

@@ -10,9 +10,6 @@ use borrow.Author.Needs.{needs}
 use Rattle.numbers.proofs.unsigned_abs64.Statement.{statement}
 use Rattle.numbers.proofs.unsigned_abs64.Tie as tie
 
-magnitude-requires : tie.Need-magnitude-requires
-magnitude-requires c κs = search needs
-
 m-is : (c : tie.After-magnitude) → c .magnitude .result ≡ mag (c .before .args .x)
 m-is c = c .magnitude .ensures ∙ ap mag (toZ-ofZ w64 _ (c .before .fits .x))
 
@@ -28,4 +25,4 @@ returns-2 c =
     omega (arith, m-is (c .before), ap natAbs (is-pos w64 _ (c .before .before .fits .x) (c .if1 .left)))
 
 pub unsigned-abs64-spec : {M : Type 1} → statement M
-unsigned-abs64-spec = tie.close (tie.spec magnitude-requires add-result returns returns-2)
+unsigned-abs64-spec = tie.close (tie.spec (λ c κs. search needs) add-result returns returns-2)
