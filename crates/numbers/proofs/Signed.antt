@@ -4,7 +4,7 @@ use mathlib.Core.Bool.{true, false}
 use Prim.Native.Nat.{ℕ, suc, _+_, _-_, _<_, _≤_}
 use native.Mathlib.Omega.{arith}
 use lib.IntN.{ℤ, pos, negsuc, _-ℤ_, natAbs}
-use lib.Signed.{mag, ltZ, nonNeg}
+use lib.Signed.{mag, ltZ, leZ, nonNeg}
 use lib.Dec.{T}
 use borrow.Author.Tests.{ltb-true, le-ltb}
 use mir.Syntax.{Width, w32, w64}
@@ -44,11 +44,19 @@ pub pos-mag : (x : ℤ) → ltZ x (pos 0) ≡ false → x ≡ pos (mag x)
 pos-mag (pos n) t = refl
 pos-mag (negsuc n) t = let z : true ≡ false = t in cc
 
+-- and from 0 <= x
+nat-mag : (x : ℤ) → leZ (pos 0) x ≡ true → x ≡ pos (mag x)
+nat-mag (pos n) t = refl
+nat-mag (negsuc n) t = let z : false ≡ true = t in cc
+
 pub is-neg : (w : Width) (x : ℤ) → SFits w x → ltZ (toZ w (ofZ w x)) (pos 0) ≡ true → x ≡ negsuc (mag x)
 is-neg w x f t = neg-mag x (rw (toZ-ofZ w x f) at t)
 
 pub is-pos : (w : Width) (x : ℤ) → SFits w x → ltZ (toZ w (ofZ w x)) (pos 0) ≡ false → x ≡ pos (mag x)
 is-pos w x f t = pos-mag x (rw (toZ-ofZ w x f) at t)
+
+pub is-nat : (w : Width) (x : ℤ) → SFits w x → leZ (pos 0) (toZ w (ofZ w x)) ≡ true → x ≡ pos (mag x)
+is-nat w x f t = nat-mag x (rw (toZ-ofZ w x f) at t)
 
 -- −1 − (−(n + 1)) is n
 flip-neg : (n : ℕ) → negsuc 0 -ℤ negsuc n ≡ pos n

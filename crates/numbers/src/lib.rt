@@ -159,15 +159,27 @@ pub fn decimal_text(v: i64) -> Decimal
     let size = unsigned_abs64(v);
     let n = digit_count(size);
     let mut bytes = [0u8; 20];
+    let mut sign = 0;
     if v < 0 {
         bytes[0] = b'-';
-        write_places(&mut bytes, 1, n, size);
-        Decimal {
-            bytes,
-            count: n + 1,
-        }
-    } else {
-        write_places(&mut bytes, 0, n, size);
-        Decimal { bytes, count: n }
+        sign = 1;
     }
+    write_places(&mut bytes, sign, n, size);
+    Decimal {
+        bytes,
+        count: sign + n,
+    }
+}
+
+// By a loop: a count by comparisons would be computed ahead of every format's loop, whether or not it is used.
+pub fn text_length(v: i64) -> usize
+    ensures { λ r. ⌜ r ≡ length (decimalText v) ⌝ }
+{
+    let mut n = unsigned_abs64(v);
+    let mut count = if v < 0 { 2 } else { 1 };
+    while n >= 10 {
+        n = n / 10;
+        count += 1;
+    }
+    count
 }

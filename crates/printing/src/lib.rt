@@ -1,11 +1,10 @@
 // Ports what core::fmt writes for mod.rs (`{:0width$}` and `{: >width$}`), `write_padding` and `year_width` of mod.rs.
 ghost use mathlib.Core.Path.{_≡_};
-ghost use mathlib.Core.List.{[], _∷_, _++_};
-ghost use Prim.Native.Nat.{ℕ, suc, _-_, _≤_, _<_};
-ghost use lib.IntN.{negsuc};
+ghost use mathlib.Core.List.{[], _∷_};
+ghost use Prim.Native.Nat.{ℕ, _-_, _≤_, _<_};
 ghost use lib.ListN.{length, replicate};
 ghost use Rattle.rules.specs.Event as event;
-ghost use Rattle.rules.specs.Decimal.{digits, digitCount, places, zeros, spaces, filled};
+ghost use Rattle.rules.specs.Decimal.{places, zeros, fillByte, filled};
 ghost use Rattle.rules.specs.Writing.{widthOr, padByte, padTo, yearText};
 ghost use Rattle.text.specs.Ran.{Ran};
 ghost use Rattle.text.specs.Room.{Room};
@@ -50,54 +49,53 @@ pub fn put_run(out: &mut [u8], at: usize, room: usize, byte: u8, count: usize) -
     text::run_short(out, at, room, byte, count)
 }
 
-// The digits of v behind as many zeros as the width asks for.
-fn put_digits(out: &mut [u8], at: usize, room: usize, v: u64, width: usize) -> usize
+// Few bytes that were just written, one by one: a copy in greater pieces would wait for them.
+fn put_few(out: &mut [u8], at: usize, room: usize, src: &[u8]) -> usize
     requires { ⌜ Room (now out) room ⌝ }
-    ensures { λ r. ⌜ ((limit : ℕ) → Ran limit room (event.write (event.put (replicate (width - digitCount v) 48 ++ digits v)) ∷ []) (now (out .entry)) at (now (out .exit)) r) ⌝ }
+    ensures { λ r. ⌜ ((limit : ℕ) → Ran limit room (event.write (event.put (now (src .entry))) ∷ []) (now (out .entry)) at (now (out .exit)) r) ⌝ }
 {
-    let count = numbers::digit_count(v);
-    if width <= count {
-        return text::put_places(out, at, room, count, v);
+    if at < out.len() {
+        let left = out.len() - at;
+        let mut i = 0;
+        while i < src.len() {
+            if i < left {
+                out[at + i] = src[i];
+            }
+            i += 1;
+        }
     }
-    let next = put_run(out, at, room, b'0', width - count);
-    text::put_places(out, next, room, count, v)
+    text::missed(at, src.len(), room)
 }
 
-// The same. A number that has no more digits than the width is its last places.
-fn put_zeros(out: &mut [u8], at: usize, room: usize, v: u64, width: usize) -> usize
-    requires { ⌜ Room (now out) room ⌝ }
-    ensures { λ r. ⌜ ((limit : ℕ) → Ran limit room (event.write (event.put (replicate (width - digitCount v) 48 ++ digits v)) ∷ []) (now (out .entry)) at (now (out .exit)) r) ⌝ }
+pub fn fill_byte(zeros: bool) -> u8
+    ensures { λ r. ⌜ r ≡ fillByte (fillWith zeros) ⌝ }
 {
-    if width == 0 || 9 < width {
-        return put_digits(out, at, room, v, width);
-    }
-    if v < numbers::power(width) as u64 {
-        return text::put_places(out, at, room, width, v);
-    }
-    put_digits(out, at, room, v, width)
+    if zeros { b'0' } else { b' ' }
 }
 
-// The number -size: zeros go after the sign.
-fn put_negative(out: &mut [u8], at: usize, room: usize, size: u64, width: usize) -> usize
+// The decimal text of v behind spaces, or with zeros after its sign. The printer is called here alone: a compiler then takes it in, and its
+// bytes are copied nowhere on the way.
+fn put_text(out: &mut [u8], at: usize, room: usize, v: i64, width: usize, zeros: bool) -> usize
     requires { ⌜ Room (now out) room ⌝ }
-    ensures { λ r. ⌜ ((limit n : ℕ) → size ≡ suc n → Ran limit room (event.write (event.put (filled zeros width (negsuc n))) ∷ []) (now (out .entry)) at (now (out .exit)) r) ⌝ }
-{
-    let next = text::put(out, at, room, b"-");
-    put_zeros(out, next, room, size, saturating_sub(width, 1))
-}
-
-// The decimal text of v behind spaces.
-fn put_spaced(out: &mut [u8], at: usize, room: usize, v: i64, width: usize) -> usize
-    requires { ⌜ Room (now out) room ⌝ }
-    ensures { λ r. ⌜ ((limit : ℕ) → Ran limit room (event.write (event.put (filled spaces width v)) ∷ []) (now (out .entry)) at (now (out .exit)) r) ⌝ }
+    ensures { λ r. ⌜ ((limit : ℕ) → Ran limit room (event.write (event.put (filled (fillWith zeros) width v)) ∷ []) (now (out .entry)) at (now (out .exit)) r) ⌝ }
 {
     let decimal = numbers::decimal_text(v);
     let count = decimal.count;
     let bytes = decimal.bytes;
-    let next = put_run(out, at, room, b' ', saturating_sub(width, count));
-    text::put(out, next, room, &bytes[..count])
+    if width <= count {
+        return put_few(out, at, room, &bytes[..count]);
+    }
+    let fill = width - count;
+    if zeros && v < 0 {
+        let next = text::put(out, at, room, b"-");
+        let first = put_run(out, next, room, b'0', fill);
+        return put_few(out, first, room, &bytes[1..count]);
+    }
+    let first = put_run(out, at, room, fill_byte(zeros), fill);
+    put_few(out, first, room, &bytes[..count])
 }
 
+// Two, three or four digits with no text made first, where the number has no more.
 pub fn put_decimal(
     out: &mut [u8],
     at: usize,
@@ -109,14 +107,13 @@ pub fn put_decimal(
     requires { ⌜ Room (now out) room ⌝ }
     ensures { λ r. ⌜ ((limit : ℕ) → Ran limit room (event.write (event.put (filled (fillWith zeros) width v)) ∷ []) (now (out .entry)) at (now (out .exit)) r) ⌝ }
 {
-    if !zeros {
-        return put_spaced(out, at, room, v, width);
+    if zeros && 2 <= width && width <= 4 && 0 <= v {
+        let size = v as u64;
+        if size < numbers::power(width) as u64 {
+            return text::put_places(out, at, room, width, size);
+        }
     }
-    let size = numbers::unsigned_abs64(v);
-    if v < 0 {
-        return put_negative(out, at, room, size, width);
-    }
-    put_zeros(out, at, room, size, width)
+    put_text(out, at, room, v, width, zeros)
 }
 
 // Four digits, with one test of the room.
@@ -140,23 +137,20 @@ pub fn put_year(out: &mut [u8], at: usize, room: usize, year: i32) -> usize
     requires { ⌜ Room (now out) room ⌝ }
     ensures { λ r. ⌜ ((limit : ℕ) → Ran limit room (event.write (event.put (yearText year)) ∷ []) (now (out .entry)) at (now (out .exit)) r) ⌝ }
 {
-    let size = numbers::unsigned_abs(year);
     if year < 0 {
-        return put_negative(out, at, room, size as u64, 5);
+        return put_text(out, at, room, year as i64, 5, true);
     }
-    if size < 10000 {
-        return put_four(out, at, room, size);
+    if year < 10000 {
+        return put_four(out, at, room, year as u32);
     }
-    put_digits(out, at, room, size as u64, 4)
+    put_text(out, at, room, year as i64, 4, true)
 }
 
-// How many bytes a year takes that is written with zeros to at least so many. The printer counts its digits: a count by comparisons
-// would be computed ahead of every format's loop, whether or not a combination is padded.
+// How many bytes a year takes that is written with zeros to at least so many.
 pub fn year_length(year: i32, least: usize) -> usize
     ensures { λ r. ⌜ r ≡ length (filled zeros least year) ⌝ }
 {
-    let decimal = numbers::decimal_text(year as i64);
-    let length = decimal.count;
+    let length = numbers::text_length(year as i64);
     if length < least { least } else { length }
 }
 

@@ -1,34 +1,48 @@
--- The text behind spaces, a negative number, or the digits behind zeros.
-use mathlib.Core.Path.{sym, _∙_}
-use mathlib.Core.Bool.{true}
+-- Fixed places, or the text.
+use mathlib.Core.Path.{_≡_, refl, ap, _∙_}
+use native.Mathlib.Omega.{arith}
+use borrow.Author.Tests.{leb-true}
+use lib.IntN.{pos}
+use lib.Signed.{mag}
 use mir.Syntax.{w64}
 use mir.ValLaws.{toZ-ofZ}
-use borrow.Author.Tests.{not-true, not-false}
+use Rattle.rules.specs.Decimal.{filled}
+use Rattle.numbers.proofs.Signed.{cast-fits, is-nat}
 use Rattle.text.proofs.RanLaws.{said}
-use Rattle.printing.proofs.FilledLaws.{filled-natural, as-asked}
-use Rattle.printing.proofs.SignLaws.{negative, natural}
+use Rattle.printing.specs.FillWith.{fillWith}
+use Rattle.printing.proofs.FilledLaws.{as-asked}
+use Rattle.printing.proofs.SignLaws.{fixed}
 use borrow.Author.Needs.{needs}
 use Rattle.printing.proofs.put_decimal.Statement.{statement}
 use Rattle.printing.proofs.put_decimal.Tie as tie
 
+natural : (c : tie.Then4) → c .before .before .before .before .before .args .v ≡ pos (mag (c .before .before .before .before .before .args .v))
+natural c = is-nat w64 _ (c .before .before .before .before .before .fits .v) (c .if4 .taken)
+
+cast-size : tie.Need-cast-size
+cast-size c =
+    let f = c .before .before .before .before .before .fits .v in
+    cast-fits w64 (toZ-ofZ w64 _ f ∙ natural c) (omega (arith, f .sfits))
+
+power-requires : tie.Need-power-requires
+power-requires c κs = omega (arith, leb-true)
+
 returns : tie.Need-returns
 returns c =
-    let a = c .before .before .before .before .before .before .args in
-    λ limit. said (as-asked (a .width) (not-true (a .zeros) (c .before .before .before .before .if1 .taken)) (sym (toZ-ofZ w64 (a .v) (c .before .before .before .before .before .before .fits .v)))) (c .before .before .put-spaced .ensures limit)
+    let i = c .before .before .before .before in
+    let t = i .before .before in
+    let s = t .before .before .before .before .before in
+    let h = rw (i .before .power .ensures) at (i .if5 .taken) in
+    λ limit.
+    said (fixed w64 (s .args .v) (s .fits .v) (natural t) (s .args .width) (omega (arith, leb-true)) h ∙ as-asked (s .args .width) (t .before .before .before .if1 .taken) refl)
+    (c .before .before .put-places .ensures limit)
 
 returns-2 : tie.Need-returns-2
 returns-2 c =
-    let a = c .before .before .before .before .before .before .before .before .args in
-    let s = negative w64 (a .v) (c .before .before .before .before .before .before .before .before .fits .v) _ (c .before .before .before .before .before .unsigned-abs64 .ensures) (c .before .before .before .before .if2 .taken) in
-    λ limit. said (as-asked (a .width) (not-false (a .zeros) (c .before .before .before .before .before .before .if1 .left)) (s .1)) (c .before .before .put-negative .ensures limit _ (s .0))
-
-returns-3 : tie.Need-returns-3
-returns-3 c =
-    let a = c .before .before .before .before .before .before .before .before .args in
-    let s = natural w64 (a .v) (c .before .before .before .before .before .before .before .before .fits .v) _ (c .before .before .before .before .before .unsigned-abs64 .ensures) (c .before .before .before .before .if2 .left) in
-    λ limit. said (filled-natural (a .width) _ true ∙ as-asked (a .width) (not-false (a .zeros) (c .before .before .before .before .before .before .if1 .left)) s) (c .before .before .put-zeros .ensures limit)
+    let s = c .before .before .before .before .before .before in
+    λ limit. said (ap (filled (fillWith (s .args .zeros)) (s .args .width)) (toZ-ofZ w64 (s .args .v) (s .fits .v))) (c .before .before .put-text .ensures limit)
 
 pub put-decimal-spec : {M : Type 1} → statement M
 put-decimal-spec =
-    tie.close (tie.spec (λ c κs. search needs) (λ c. search needs) returns (λ c κs. search needs) (λ c κs. search needs)
-    (λ c. search needs) returns-2 (λ c κs. search needs) (λ c. search needs) returns-3)
+    tie.close (tie.spec cast-size power-requires (λ c. search needs) (λ c κs. search needs) (λ c. search needs) returns
+    (λ c κs. search needs) (λ c. search needs) returns-2)

@@ -10,14 +10,11 @@ use borrow.Author.Needs.{needs}
 use Rattle.printing.proofs.year_length.Statement.{statement}
 use Rattle.printing.proofs.year_length.Tie as tie
 
-cast-decimal-text : tie.Need-cast-decimal-text
-cast-decimal-text c = widens _ (c .fits .year)
+cast-text-length : tie.Need-cast-text-length
+cast-text-length c = widens _ (c .fits .year)
 
-decimal-text-requires : tie.Need-decimal-text-requires
-decimal-text-requires c κs = search needs
-
-length-is : (c : tie.After-decimal-text) → c .decimal-text .result .count ≡ length (decimalText (c .before .args .year))
-length-is c = c .decimal-text .ensures .1 ∙ ap (λ (z : ℤ). length (decimalText z)) (widened _ (c .before .fits .year))
+length-is : (c : tie.After-text-length) → c .text-length .result ≡ length (decimalText (c .before .args .year))
+length-is c = c .text-length .ensures ∙ ap (λ (z : ℤ). length (decimalText z)) (widened _ (c .before .fits .year))
 
 returns : tie.Need-returns
 returns c = omega (arith, length-is (c .before), length-filled zeros (c .before .before .args .least) (c .before .before .args .year))
@@ -26,4 +23,4 @@ returns-2 : tie.Need-returns-2
 returns-2 c = omega (arith, length-is (c .before), length-filled zeros (c .before .before .args .least) (c .before .before .args .year))
 
 pub year-length-spec : {M : Type 1} → statement M
-year-length-spec = tie.close (tie.spec cast-decimal-text decimal-text-requires returns returns-2)
+year-length-spec = tie.close (tie.spec cast-text-length (λ c κs. search needs) returns returns-2)
