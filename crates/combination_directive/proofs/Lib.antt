@@ -1,3 +1,1 @@
-pub mod TextLaws
-pub mod LengthLaws
 pub mod CombinedLaws

@@ -6,16 +6,18 @@ ghost use Prim.Native.Nat.{ℕ, _≤_, _<_};
 ghost use lib.ListN.{length};
 ghost use Rattle.rules.specs.declared.Combination.the-variants as kind;
 ghost use Rattle.rules.specs.declared.Spec.the-variants as spec;
-ghost use Rattle.rules.specs.Record.{allOk, hour, minute};
-ghost use Rattle.rules.specs.Writing.{yearText, combinationLength, specEvents};
+ghost use Rattle.rules.specs.Ascii.{byte, ascii};
+ghost use Rattle.rules.specs.Name.{before12};
+ghost use Rattle.rules.specs.Record.{longestBuffer, allOk, hour, minute};
+ghost use Rattle.rules.specs.Writing.{yearText, dayText, combinationLength, specEvents};
 ghost use Rattle.text.specs.Ran.{Ran};
 ghost use Rattle.text.specs.Room.{Room};
 ghost use Rattle.printing.specs.Plain.{plainPiece};
-ghost use Rattle.combination_directive.specs.Combined.{Combined, halfOf, spacedTens};
+ghost use Rattle.combination_directive.specs.Combined.{Combined, clockText};
 use names::calendar::day_three;
 use names::calendar::month_three;
-use numbers::ones;
-use numbers::tens;
+use numbers::TwoDigits;
+use numbers::two_digits;
 use printing::put_decimal;
 use printing::put_year;
 use printing::write_padding;
@@ -24,31 +26,45 @@ use rules::Combination;
 use rules::Flag;
 use rules::Piece;
 use rules::Record;
-use text::checked;
+use text::judged;
 use text::put;
 use values::year_width;
 
-// The tens of a number that is written in two places, with a space for no tens.
-fn spaced_tens(v: u8) -> u8
-    requires { ⌜ v < 100 ⌝ }
-    ensures { λ r. ⌜ r ≡ spacedTens v ⌝ }
+// The day of the month in two places, with a space for no tens.
+fn day_digits(day: u8) -> TwoDigits
+    requires { ⌜ day < 100 ⌝ }
+    ensures { λ r. ⌜ r .0 ∷ r .1 ∷ [] ≡ dayText day ⌝ }
 {
-    if v < 10 { b' ' } else { tens(v) }
+    if day < 10 {
+        TwoDigits(b' ', b'0' + day)
+    } else {
+        two_digits(day)
+    }
+}
+
+// HH:MM:SS.
+fn clock_text(hour: u8, minute: u8, second: u8) -> [u8; 8]
+    requires { ⌜ (hour < 100) × (minute < 100) × (second < 100) ⌝ }
+    ensures { λ r. ⌜ r ≡ clockText hour minute second ⌝ }
+{
+    let h = two_digits(hour);
+    let m = two_digits(minute);
+    let s = two_digits(second);
+    [h.0, h.1, b':', m.0, m.1, b':', s.0, s.1]
 }
 
 fn date_time(out: &mut [u8], at: usize, room: usize, record: Record, upper: bool) -> usize
     requires { ⌜ Room (now out) room ⌝ }
     ensures { λ r. ⌜ Combined room kind.CombinationDateTime upper «record» (now (out .entry)) at (now (out .exit)) r ⌝ }
 {
-    if !fields::date_time(record) {
-        return checked(at, false, 1);
+    let verdict = fields::verdict(fields::date_time(record));
+    if verdict != 0 {
+        return judged(at, verdict);
     }
     let week_day_name = day_three(record.day_of_week, upper);
     let month_name = month_three(record.month, upper);
-    let day = record.day;
-    let hour = record.hour;
-    let minute = record.minute;
-    let second = record.second;
+    let day = day_digits(record.day);
+    let clock = clock_text(record.hour, record.minute, record.second);
     let text = [
         week_day_name.0,
         week_day_name.1,
@@ -58,17 +74,17 @@ fn date_time(out: &mut [u8], at: usize, room: usize, record: Record, upper: bool
         month_name.1,
         month_name.2,
         b' ',
-        spaced_tens(day),
-        ones(day),
+        day.0,
+        day.1,
         b' ',
-        tens(hour),
-        ones(hour),
-        b':',
-        tens(minute),
-        ones(minute),
-        b':',
-        tens(second),
-        ones(second),
+        clock[0],
+        clock[1],
+        clock[2],
+        clock[3],
+        clock[4],
+        clock[5],
+        clock[6],
+        clock[7],
         b' ',
     ];
     let next = put(out, at, room, &text);
@@ -79,22 +95,14 @@ fn date(out: &mut [u8], at: usize, room: usize, record: Record) -> usize
     requires { ⌜ Room (now out) room ⌝ }
     ensures { λ r. ⌜ ((upper : Bool) → Combined room kind.CombinationDate upper «record» (now (out .entry)) at (now (out .exit)) r) ⌝ }
 {
-    if !fields::date(record) {
-        return checked(at, false, 1);
+    let verdict = fields::verdict(fields::date(record));
+    if verdict != 0 {
+        return judged(at, verdict);
     }
-    let month = record.month;
-    let day = record.day;
-    let year = numbers::rem_euclid_100(record.year);
-    let text = [
-        tens(month),
-        ones(month),
-        b'/',
-        tens(day),
-        ones(day),
-        b'/',
-        tens(year),
-        ones(year),
-    ];
+    let month = two_digits(record.month);
+    let day = two_digits(record.day);
+    let year = two_digits(numbers::rem_euclid_100(record.year));
+    let text = [month.0, month.1, b'/', day.0, day.1, b'/', year.0, year.1];
     put(out, at, room, &text)
 }
 
@@ -102,12 +110,13 @@ fn iso8601(out: &mut [u8], at: usize, room: usize, record: Record) -> usize
     requires { ⌜ Room (now out) room ⌝ }
     ensures { λ r. ⌜ ((upper : Bool) → Combined room kind.CombinationIso8601 upper «record» (now (out .entry)) at (now (out .exit)) r) ⌝ }
 {
-    if !fields::date(record) {
-        return checked(at, false, 1);
+    let verdict = fields::verdict(fields::date(record));
+    if verdict != 0 {
+        return judged(at, verdict);
     }
-    let month = record.month;
-    let day = record.day;
-    let text = [b'-', tens(month), ones(month), b'-', tens(day), ones(day)];
+    let month = two_digits(record.month);
+    let day = two_digits(record.day);
+    let text = [b'-', month.0, month.1, b'-', day.0, day.1];
     let next = put_year(out, at, room, record.year);
     put(out, next, room, &text)
 }
@@ -117,14 +126,15 @@ fn vms_date(out: &mut [u8], at: usize, room: usize, record: Record) -> usize
     requires { ⌜ Room (now out) room ⌝ }
     ensures { λ r. ⌜ ((upper : Bool) → Combined room kind.CombinationVmsDate upper «record» (now (out .entry)) at (now (out .exit)) r) ⌝ }
 {
-    if !fields::date(record) {
-        return checked(at, false, 1);
+    let verdict = fields::verdict(fields::date(record));
+    if verdict != 0 {
+        return judged(at, verdict);
     }
-    let day = record.day;
+    let day = day_digits(record.day);
     let month_name = month_three(record.month, true);
     let text = [
-        spaced_tens(day),
-        ones(day),
+        day.0,
+        day.1,
         b'-',
         month_name.0,
         month_name.1,
@@ -137,7 +147,7 @@ fn vms_date(out: &mut [u8], at: usize, room: usize, record: Record) -> usize
 
 // The first letter of AM or PM.
 fn half(hour: u8) -> u8
-    ensures { λ r. ⌜ r ≡ halfOf hour ⌝ }
+    ensures { λ r. ⌜ r ∷ byte "M" ∷ [] ≡ before12 hour (ascii "AM") (ascii "PM") ⌝ }
 {
     if hour < 12 { b'A' } else { b'P' }
 }
@@ -146,21 +156,21 @@ fn time12h(out: &mut [u8], at: usize, room: usize, record: Record) -> usize
     requires { ⌜ Room (now out) room ⌝ }
     ensures { λ r. ⌜ ((upper : Bool) → Combined room kind.CombinationTime12h upper «record» (now (out .entry)) at (now (out .exit)) r) ⌝ }
 {
-    if !fields::clock(record) {
-        return checked(at, false, 1);
+    let verdict = fields::verdict(fields::clock(record));
+    if verdict != 0 {
+        return judged(at, verdict);
     }
     let hour = values::hour12(record.hour);
-    let minute = record.minute;
-    let second = record.second;
+    let clock = clock_text(hour, record.minute, record.second);
     let text = [
-        tens(hour),
-        ones(hour),
-        b':',
-        tens(minute),
-        ones(minute),
-        b':',
-        tens(second),
-        ones(second),
+        clock[0],
+        clock[1],
+        clock[2],
+        clock[3],
+        clock[4],
+        clock[5],
+        clock[6],
+        clock[7],
         b' ',
         half(record.hour),
         b'M',
@@ -178,12 +188,13 @@ fn hour_minute24h(out: &mut [u8], at: usize, room: usize, record: Record) -> usi
     requires { ⌜ Room (now out) room ⌝ }
     ensures { λ r. ⌜ ((upper : Bool) → Combined room kind.CombinationHourMinute24h upper «record» (now (out .entry)) at (now (out .exit)) r) ⌝ }
 {
-    if !hour_and_minute(record) {
-        return checked(at, false, 1);
+    let verdict = fields::verdict(hour_and_minute(record));
+    if verdict != 0 {
+        return judged(at, verdict);
     }
-    let hour = record.hour;
-    let minute = record.minute;
-    let text = [tens(hour), ones(hour), b':', tens(minute), ones(minute)];
+    let hour = two_digits(record.hour);
+    let minute = two_digits(record.minute);
+    let text = [hour.0, hour.1, b':', minute.0, minute.1];
     put(out, at, room, &text)
 }
 
@@ -191,22 +202,11 @@ fn time24h(out: &mut [u8], at: usize, room: usize, record: Record) -> usize
     requires { ⌜ Room (now out) room ⌝ }
     ensures { λ r. ⌜ ((upper : Bool) → Combined room kind.CombinationTime24h upper «record» (now (out .entry)) at (now (out .exit)) r) ⌝ }
 {
-    if !fields::clock(record) {
-        return checked(at, false, 1);
+    let verdict = fields::verdict(fields::clock(record));
+    if verdict != 0 {
+        return judged(at, verdict);
     }
-    let hour = record.hour;
-    let minute = record.minute;
-    let second = record.second;
-    let text = [
-        tens(hour),
-        ones(hour),
-        b':',
-        tens(minute),
-        ones(minute),
-        b':',
-        tens(second),
-        ones(second),
-    ];
+    let text = clock_text(record.hour, record.minute, record.second);
     put(out, at, room, &text)
 }
 
@@ -263,7 +263,7 @@ pub fn combination(
     combination: Combination,
     record: Record,
 ) -> usize
-    requires { ⌜ Room (now out) room × (65536 ≤ limit) ⌝ }
+    requires { ⌜ Room (now out) room × (longestBuffer ≤ limit) ⌝ }
     ensures { λ r. ⌜ ((zone : List ℕ) → Ran limit room (specEvents (spec.Combination combination) piece «record» zone) (now (out .entry)) at (now (out .exit)) r) ⌝ }
 {
     let flags = piece.flags;
@@ -282,7 +282,7 @@ pub fn plain_combination(
     combination: Combination,
     record: Record,
 ) -> usize
-    requires { ⌜ Room (now out) room × (65536 ≤ limit) ⌝ }
+    requires { ⌜ Room (now out) room × (longestBuffer ≤ limit) ⌝ }
     ensures { λ r. ⌜ ((zone : List ℕ) → Ran limit room (specEvents (spec.Combination combination) (plainPiece (spec.Combination combination)) «record» zone) (now (out .entry)) at (now (out .exit)) r) ⌝ }
 {
     let next = text::pad(out, at, room, limit, b' ', 0);

@@ -4,12 +4,6 @@ use borrow.Author.Needs.{needs}
 use Rattle.combination_directive.proofs.hour_and_minute.Statement.{statement}
 use Rattle.combination_directive.proofs.hour_and_minute.Tie as tie
 
-hour-requires : tie.Need-hour-requires
-hour-requires c κs = search needs
-
-minute-requires : tie.Need-minute-requires
-minute-requires c κs = search needs
-
 returns : tie.Need-returns
 returns c = λ zone. two-held _ zone _ _ (c .before .before .hour .ensures zone) (c .before .if1 .taken) (c .minute .ensures zone)
 
@@ -17,4 +11,4 @@ returns-2 : tie.Need-returns-2
 returns-2 c = λ zone. two-failed _ zone _ _ (c .before .hour .ensures zone) (c .if1 .left)
 
 pub hour-and-minute-spec : {M : Type 1} → statement M
-hour-and-minute-spec = tie.close (tie.spec hour-requires minute-requires returns returns-2)
+hour-and-minute-spec = tie.close (tie.spec (λ c κs. search needs) (λ c κs. search needs) returns returns-2)

@@ -4,17 +4,10 @@ use borrow.Author.Needs.{needs}
 use Rattle.combination_directive.proofs.plain_combination.Statement.{statement}
 use Rattle.combination_directive.proofs.plain_combination.Tie as tie
 
-pad-requires : tie.Need-pad-requires
-pad-requires c κs = search needs
-
-combined-requires : tie.Need-combined-requires
-combined-requires c κs = search needs
-
-same-length : tie.Need-same-length
-same-length c = search needs
-
 returns : tie.Need-returns
-returns c = plainly (c .before .before .before .before .before .before .before .before .before .args .combination) (c .before .before .before .before .before .before .before .before .before .args .«record») (c .before .before .before .before .before .before .pad .ensures) (c .before .before .combined .ensures)
+returns c =
+    let a = c .before .before .before .before .before .before .before .before .before .args in
+    plainly (a .combination) (a .«record») (c .before .before .before .before .before .before .pad .ensures) (c .before .before .combined .ensures)
 
 pub plain-combination-spec : {M : Type 1} → statement M
-plain-combination-spec = tie.close (tie.spec pad-requires combined-requires same-length returns)
+plain-combination-spec = tie.close (tie.spec (λ c κs. search needs) (λ c κs. search needs) (λ c. search needs) returns)

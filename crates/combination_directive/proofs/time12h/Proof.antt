@@ -1,60 +1,36 @@
--- The fields checked, and six digits and a letter put.
-use mathlib.Core.Path.{_≡_, ap, _∙_}
+-- The fields checked; the clock and a half of the day put.
 use mathlib.Core.List.{[], _∷_, flatten}
-use Prim.Native.Nat.{_<_}
 use native.Mathlib.Omega.{arith}
 use Rattle.rules.specs.declared.Combination.the-variants.{CombinationTime12h}
-use Rattle.rules.specs.Decimal.{two}
+use Rattle.rules.specs.Decimal.{places}
 use Rattle.rules.specs.Record.{hour, minute, second}
-use Rattle.rules.specs.Writing.{hour12, combinationFields}
-use Rattle.rules.proofs.DecimalLaws.{two-is}
-use Rattle.rules.proofs.RecordLaws.{Each}
+use Rattle.rules.specs.Writing.{combinationFields, combinationText}
 use Rattle.rules.proofs.WidthLaws.{hour12-below}
-use Rattle.combination_directive.proofs.TextLaws.{halves, time12h-text}
-use Rattle.combination_directive.proofs.CombinedLaws.{in-range, failed, written}
+use Rattle.combination_directive.proofs.CombinedLaws.{judgeable, Held, held-by, failed, written}
 use borrow.Author.Needs.{needs}
 use Rattle.combination_directive.proofs.time12h.Statement.{statement}
 use Rattle.combination_directive.proofs.time12h.Tie as tie
 
-ranges : (c : tie.Else1) → Each (hour ∷ minute ∷ second ∷ []) (c .before .before .before .args .«record»)
-ranges c = in-range _ _ (c .before .clock .ensures []) (c .if1 .left)
+held : (c : tie.Else1) → Held (hour ∷ minute ∷ second ∷ []) (c .before .before .before .before .args .«record»)
+held c = held-by (c .before .before .clock .ensures) (c .before .verdict .ensures) (c .if1 .left)
 
 returns : tie.Need-returns
 unfolding combinationFields
-returns c = λ upper. failed CombinationTime12h _ (c .before .before .clock .ensures) (c .before .if1 .taken) (c .checked .ensures)
+returns c = λ upper. failed CombinationTime12h _ (c .before .before .before .clock .ensures) (c .before .before .verdict .ensures) (c .before .if1 .taken) (c .judged .ensures)
 
-below : (c : tie.After-hour12) → c .hour12 .result < 100
-below c = omega (arith, c .hour12 .ensures, hour12-below (c .before .before .before .before .args .«record» .hour))
-
-tens-requires : tie.Need-tens-requires
-tens-requires c κs = below c
-
-tens-requires-2 : tie.Need-tens-requires-2
-tens-requires-2 c κs = omega (arith, ranges (c .before .before .before))
-
-tens-requires-3 : tie.Need-tens-requires-3
-tens-requires-3 c κs = omega (arith, ranges (c .before .before .before .before .before))
-
-hours : (c : tie.After-ones) → c .before .tens .result ∷ c .ones .result ∷ [] ≡ two (hour12 (c .before .before .before .before .before .before .args .«record» .hour))
-hours c = two-is _ (below (c .before .before)) (c .before .tens .ensures) (c .ones .ensures) ∙ ap two (c .before .before .hour12 .ensures)
-
-minutes : (c : tie.After-ones2) → c .before .tens2 .result ∷ c .ones2 .result ∷ [] ≡ two (c .before .before .before .before .before .before .before .before .args .«record» .minute)
-minutes c = two-is _ (omega (arith, ranges (c .before .before .before .before .before))) (c .before .tens2 .ensures) (c .ones2 .ensures)
-
-seconds : (c : tie.After-ones3) → c .before .tens3 .result ∷ c .ones3 .result ∷ [] ≡ two (c .before .before .before .before .before .before .before .before .before .before .args .«record» .second)
-seconds c = two-is _ (omega (arith, ranges (c .before .before .before .before .before .before .before))) (c .before .tens3 .ensures) (c .ones3 .ensures)
+clock-text-requires : tie.Need-clock-text-requires
+clock-text-requires c κs = omega (arith, c .hour12 .ensures, hour12-below (c .before .before .before .before .before .args .«record» .hour), held (c .before) .ranges)
 
 returns-2 : tie.Need-returns-2
-unfolding combinationFields flatten
+unfolding combinationFields combinationText flatten places
 returns-2 c =
-    let r = c .before .before .before .before .before .before .before .before .before .before .before .before .before .before .before .before .args .«record» in
-    λ upper.
-    written CombinationTime12h _ (c .before .before .before .before .before .before .before .before .before .before .before .before .before .before .clock .ensures) (c .before .before .before .before .before .before .before .before .before .before .before .before .before .if1 .left)
-    (λ f e. time12h-text f r (hours (c .before .before .before .before .before .before .before .before .before .before)) (minutes (c .before .before .before .before .before .before .before .before)) (seconds (c .before .before .before .before .before .before)) (halves (r .hour) (c .before .before .before .before .before .half .ensures)))
-    (c .before .before .put .ensures)
+    let k = c .before .before .before .before .before in
+    λ upper. written CombinationTime12h _ (held (k .before .before .before)) (λ f e. rw (k .before .clock-text .ensures, k .before .before .hour12 .ensures, ← k .half .ensures)) (c .before .before .put .ensures)
 
 pub time12h-spec : {M : Type 1} → statement M
 time12h-spec =
-    tie.close (tie.spec (λ c κs. search needs) (λ c κs. search needs) returns (λ c κs. search needs) tens-requires
-    (λ c κs. search needs) tens-requires-2 (λ c κs. search needs) tens-requires-3 (λ c κs. search needs)
-    (λ c κs. search needs) (λ c. search needs) (λ c κs. search needs) (λ c. search needs) returns-2)
+    tie.close (tie.spec (λ c κs. search needs) (λ c κs. search needs)
+    (λ c κs. judgeable _ (c .before .verdict .ensures)) returns (λ c κs. search needs) clock-text-requires
+    (λ c. search needs) (λ c. search needs) (λ c. search needs) (λ c. search needs) (λ c. search needs)
+    (λ c. search needs) (λ c. search needs) (λ c. search needs) (λ c κs. search needs) (λ c. search needs)
+    (λ c κs. search needs) (λ c. search needs) returns-2)
