@@ -1,14 +1,25 @@
 -- The rules of the tables of names and of their packed words, in either case: one computed test and one law each.
-use mathlib.Core.Path.{_≡_, ap}
+use mathlib.Core.Path.{_≡_, refl, ap}
 use mathlib.Core.Bool.{Bool, true, false, _&&_}
 use mathlib.Core.List.{List, [], flatten}
 use Prim.Native.Nat.{ℕ, _+_, _-_, _≤_, _<_}
 use native.Mathlib.Omega.{arith}
 use lib.Dec.{T, leb, leb→le}
 use lib.ListN.{length, getD, take, drop, length-take, length-drop}
+use Rattle.rules.specs.Ascii.{ascii}
 use Rattle.rules.specs.Name.{dayNames, monthNames, dayName, monthName, abbreviated, upper, raised, inCase}
-use Rattle.names.specs.Calendar.{caseBy, startOf, packed, unpacked, casedWord}
+use Rattle.names.specs.Calendar.{caseBy, nameStart, packed, unpacked, casedWord}
 use Rattle.names.proofs.TestLaws.{and-left, and-right, eqs, eqs→eq, upto, upto-at}
+
+-- ## The upper twins: each is the upper case of its table, by one computed test
+
+pub days-raised : ascii "SUNDAYMONDAYTUESDAYWEDNESDAYTHURSDAYFRIDAYSATURDAY" ≡ inCase raised (ascii "SundayMondayTuesdayWednesdayThursdayFridaySaturday")
+unfolding upper inCase
+days-raised = refl
+
+pub months-raised : ascii "JANUARYFEBRUARYMARCHAPRILMAYJUNEJULYAUGUSTSEPTEMBEROCTOBERNOVEMBERDECEMBER" ≡ inCase raised (ascii "JanuaryFebruaryMarchAprilMayJuneJulyAugustSeptemberOctoberNovemberDecember")
+unfolding upper inCase
+months-raised = refl
 
 -- the table of the case that is asked for
 module _ (names : List (List ℕ)) {u : Bool} {table : List ℕ} where
@@ -46,26 +57,26 @@ cut-length w =
 
 module _ (names : List (List ℕ)) (u : Bool) where
   abbrev stands : ℕ → Bool
-  stands k = cut (inCase (caseBy u) (flatten names)) (startOf names k) (startOf names (k + 1)) (inCase (caseBy u) (getD names k []))
+  stands k = cut (inCase (caseBy u) (flatten names)) (nameStart names k) (nameStart names (k + 1)) (inCase (caseBy u) (getD names k []))
 
-  part-of : (n : ℕ) → T (upto stands n) → {k from end : ℕ} {table : List ℕ} → k < n → table ≡ inCase (caseBy u) (flatten names) → from ≡ startOf names k → end ≡ startOf names (k + 1) → Cut table from end (inCase (caseBy u) (getD names k []))
+  part-of : (n : ℕ) → T (upto stands n) → {k from end : ℕ} {table : List ℕ} → k < n → table ≡ inCase (caseBy u) (flatten names) → from ≡ nameStart names k → end ≡ nameStart names (k + 1) → Cut table from end (inCase (caseBy u) (getD names k []))
   part-of n test {k} h t f e = rw (t, f, e) (cut-holds _ _ _ _ (upto-at stands n test k h))
 
 days-stand : (u : Bool) → T (upto (stands dayNames u) 7)
-unfolding dayNames startOf flatten upper inCase
+unfolding dayNames nameStart flatten upper inCase
 days-stand true = tt
 days-stand false = tt
 
 months-stand : (u : Bool) → T (upto (stands monthNames u) 12)
-unfolding monthNames startOf flatten upper inCase
+unfolding monthNames nameStart flatten upper inCase
 months-stand true = tt
 months-stand false = tt
 
-pub day-part : (u : Bool) {day from end : ℕ} {table : List ℕ} → day ≤ 6 → table ≡ inCase (caseBy u) (flatten dayNames) → from ≡ startOf dayNames day → end ≡ startOf dayNames (day + 1) → Cut table from end (inCase (caseBy u) (dayName day))
+pub day-part : (u : Bool) {day from end : ℕ} {table : List ℕ} → day ≤ 6 → table ≡ inCase (caseBy u) (flatten dayNames) → from ≡ nameStart dayNames day → end ≡ nameStart dayNames (day + 1) → Cut table from end (inCase (caseBy u) (dayName day))
 unfolding dayName
 day-part u h t f e = part-of dayNames u 7 (days-stand u) (omega arith) t f e
 
-pub month-part : (u : Bool) {month from end : ℕ} {table : List ℕ} → 1 ≤ month → month ≤ 12 → table ≡ inCase (caseBy u) (flatten monthNames) → from ≡ startOf monthNames (month - 1) → end ≡ startOf monthNames (month + 1 - 1) → Cut table from end (inCase (caseBy u) (monthName month))
+pub month-part : (u : Bool) {month from end : ℕ} {table : List ℕ} → 1 ≤ month → month ≤ 12 → table ≡ inCase (caseBy u) (flatten monthNames) → from ≡ nameStart monthNames (month - 1) → end ≡ nameStart monthNames (month + 1 - 1) → Cut table from end (inCase (caseBy u) (monthName month))
 unfolding monthName
 month-part u {month} l h t f e =
     let next : month + 1 - 1 ≡ month - 1 + 1 = omega arith in

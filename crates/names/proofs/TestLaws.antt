@@ -3,10 +3,11 @@ use mathlib.Core.Path.{_≡_, refl, subst}
 use mathlib.Core.Bool.{Bool, true, false, _&&_}
 use mathlib.Core.List.{List, [], _∷_}
 use Prim.Native.Nat.{ℕ, zero, suc, _<_}
-use native.Mathlib.Nat.{not-suc-le-zero}
+use native.Mathlib.Nat.{not-suc-le-zero, le-of-suc-le-suc}
 use native.Mathlib.Decide.{decLt}
 use native.Mathlib.Omega.{arith}
 use lib.Dec.{T, eqb, eqb→eq}
+use lib.ListN.{getD}
 
 pub and-left : (a b : Bool) → T (a && b) → T a
 and-left true b t = tt
@@ -43,3 +44,13 @@ upto-at test (suc n) t k h = step (λ l. upto-at test n (and-right (test n) (upt
     step : (k < n → T (test k)) → Dec (k < n) → T (test k)
     step rest (yes l) = rest l
     step rest (no l) = subst (λ (m : ℕ). T (test m)) (omega arith) (and-left (test n) (upto test n) t)
+
+-- a rule at the first n numbers, as a table: a constant table is held to it by computing both
+abbrev tabled : (ℕ → ℕ) → ℕ → List ℕ
+tabled rule zero = []
+tabled rule (suc n) = rule zero ∷ tabled (λ k. rule (suc k)) n
+
+pub entry : (rule : ℕ → ℕ) (n k : ℕ) → k < n → getD (tabled rule n) k 0 ≡ rule k
+entry rule zero k h = absurd (not-suc-le-zero h)
+entry rule (suc n) zero h = refl
+entry rule (suc n) (suc k) h = entry (λ m. rule (suc m)) n k (le-of-suc-le-suc h)

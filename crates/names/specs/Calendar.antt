@@ -9,8 +9,8 @@ abbrev pub caseBy : Bool → Case
 caseBy upper = cond upper raised asItIs
 
 -- where name k starts: behind the names before it
-unfoldable pub startOf : List (List ℕ) → ℕ → ℕ
-startOf names k = length (flatten (take k names))
+unfoldable pub nameStart : List (List ℕ) → ℕ → ℕ
+nameStart names k = length (flatten (take k names))
 
 -- bytes as one number, the first the lowest, and three of them out of it again
 unfoldable pub packed : List ℕ → ℕ

@@ -1,17 +1,14 @@
--- Each arm is the packed name of its number.
-use Prim.Native.Nat.{ℕ, zero-le}
+-- The table is what its rule gives at each number: that is computed.
+use borrow.Author.Needs.{needs}
 use Rattle.rules.specs.Name.{dayNames, dayName, abbreviated}
 use Rattle.names.specs.Calendar.{packed}
-use Rattle.rules.proofs.MatchLaws.{is, behind}
+use Rattle.names.proofs.TestLaws.{entry}
 use Rattle.names.proofs.calendar.day_word.Statement.{statement}
 use Rattle.names.proofs.calendar.day_word.Tie as tie
 
-abbrev word : ℕ → ℕ
-word day = packed (abbreviated (dayName day))
+returns : tie.Need-returns
+unfolding dayNames dayName packed
+returns c = entry (λ day. packed (abbreviated (dayName day))) 7 (c .args .day) (search needs)
 
 pub day-word-spec : {M : Type 1} → statement M
-unfolding dayNames dayName packed
-day-word-spec =
-    tie.close (tie.spec (λ c. is word (c .match .keys1)) (λ c. is word (c .match .keys2))
-    (λ c. is word (c .match .keys3)) (λ c. is word (c .match .keys4)) (λ c. is word (c .match .keys5))
-    (λ c. is word (c .match .keys6)) (λ c. is word (behind _ _ 0 6 (c .match .rest) zero-le (c .before .pre))))
+day-word-spec = tie.close (tie.spec (λ c. search needs) (λ c. search needs) returns)

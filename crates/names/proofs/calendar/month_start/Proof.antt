@@ -1,21 +1,16 @@
--- Each arm is the place at its number.
+-- The table is what its rule gives at each number: that is computed.
 use mathlib.Core.List.{flatten}
-use Prim.Native.Nat.{ℕ, _-_}
+use Prim.Native.Nat.{_-_}
+use borrow.Author.Needs.{needs}
 use Rattle.rules.specs.Name.{monthNames}
-use Rattle.names.specs.Calendar.{startOf}
-use Rattle.rules.proofs.MatchLaws.{is, behind}
+use Rattle.names.specs.Calendar.{nameStart}
+use Rattle.names.proofs.TestLaws.{entry}
 use Rattle.names.proofs.calendar.month_start.Statement.{statement}
 use Rattle.names.proofs.calendar.month_start.Tie as tie
 
-abbrev start : ℕ → ℕ
-start month = startOf monthNames (month - 1)
+returns : tie.Need-returns
+unfolding monthNames nameStart flatten
+returns c = entry (nameStart monthNames) 13 (c .args .month - 1) (search needs)
 
 pub month-start-spec : {M : Type 1} → statement M
-unfolding monthNames startOf flatten
-month-start-spec =
-    tie.close (tie.spec (λ c. is start (c .match .keys1)) (λ c. is start (c .match .keys2))
-    (λ c. is start (c .match .keys3)) (λ c. is start (c .match .keys4)) (λ c. is start (c .match .keys5))
-    (λ c. is start (c .match .keys6)) (λ c. is start (c .match .keys7)) (λ c. is start (c .match .keys8))
-    (λ c. is start (c .match .keys9)) (λ c. is start (c .match .keys10)) (λ c. is start (c .match .keys11))
-    (λ c. is start (c .match .keys12))
-    (λ c. is start (behind _ _ 1 12 (c .match .rest) (c .before .pre .0) (c .before .pre .1))))
+month-start-spec = tie.close (tie.spec (λ c. search needs) (λ c. search needs) returns)

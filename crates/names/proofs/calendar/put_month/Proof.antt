@@ -10,27 +10,41 @@ use Rattle.names.proofs.CalendarLaws.{Cut, month-part, raised-table, pl
 use Rattle.names.proofs.calendar.put_month.Statement.{statement}
 use Rattle.names.proofs.calendar.put_month.Tie as tie
 
-name-part : (c : tie.After-month-start2) {table : List ℕ} → table ≡ inCase (caseBy (c .before .before .before .args .upper)) (flatten monthNames) → Cut table (c .before .month-start .result) (c .month-start2 .result) (inCase (caseBy (c .before .before .before .args .upper)) (monthName (c .before .before .before .args .month)))
-name-part c t = month-part (c .before .before .before .args .upper) (c .before .before .before .pre .1) (c .before .before .before .pre .2) t (c .before .month-start .ensures) (c .month-start2 .ensures)
+module _ (c : tie.After-month-start2) where
+  abbrev Part : List ℕ → Type 0
+  Part table =
+      let args = c .before .before .before .args in
+      Cut table (c .before .month-start .result) (c .month-start2 .result) (inCase (caseBy (args .upper)) (monthName (args .month)))
+
+  part : {table : List ℕ} → table ≡ inCase (caseBy (c .before .before .before .args .upper)) (flatten monthNames) → Part table
+  part t =
+      let start = c .before .before .before in
+      month-part (start .args .upper) (start .pre .1) (start .pre .2) t (c .before .month-start .ensures) (c .month-start2 .ensures)
+
+raised-part : (c : tie.After-months-upper) → Part (c .before .before) (c .months-upper .result)
+raised-part c = part (c .before .before) (raised-table monthNames (c .before .if1 .taken) (c .months-upper .ensures))
+
+plain-part : (c : tie.After-months) → Part (c .before .before) (c .months .result)
+plain-part c = part (c .before .before) (plain-table monthNames (c .before .if1 .left) (c .months .ensures))
 
 put-part-requires : tie.Need-put-part-requires
 put-part-requires c κs =
-    let k = name-part (c .before .before .before .before) (raised-table monthNames (c .before .before .before .if1 .taken) (c .before .before .months-upper .ensures)) in
-    (c .before .before .before .before .before .before .before .pre .0, k .order, k .inside)
+    let k = raised-part (c .before .before) in
+    (search needs, k .order, k .inside)
 
 put-part-requires-2 : tie.Need-put-part-requires-2
 put-part-requires-2 c κs =
-    let k = name-part (c .before .before .before .before) (plain-table monthNames (c .before .before .before .if1 .left) (c .before .before .months .ensures)) in
-    (c .before .before .before .before .before .before .before .pre .0, k .order, k .inside)
+    let k = plain-part (c .before .before) in
+    (search needs, k .order, k .inside)
 
 returns : tie.Need-returns
-returns c = λ limit. said (name-part (c .before .before .before .before .before .before .before) (raised-table monthNames (c .before .before .before .before .before .before .if1 .taken) (c .before .before .before .before .before .months-upper .ensures)) .part) (c .before .before .put-part .ensures limit)
+returns c = λ limit. said (raised-part (c .before .before .before .before .before) .part) (c .before .before .put-part .ensures limit)
 
 returns-2 : tie.Need-returns-2
-returns-2 c = λ limit. said (name-part (c .before .before .before .before .before .before .before) (plain-table monthNames (c .before .before .before .before .before .before .if1 .left) (c .before .before .before .before .before .months .ensures)) .part) (c .before .before .put-part2 .ensures limit)
+returns-2 c = λ limit. said (plain-part (c .before .before .before .before .before) .part) (c .before .before .put-part2 .ensures limit)
 
 pub put-month-spec : {M : Type 1} → statement M
 put-month-spec =
-    tie.close (tie.spec (λ c κs. search needs) (λ c. search needs) (λ c κs. search needs) (λ c κs. search needs)
-    (λ c. search needs) put-part-requires (λ c κs. search needs) (λ c. search needs) put-part-requires-2
-    (λ c. search needs) returns (λ c. search needs) returns-2)
+    tie.close (tie.spec (λ c κs. search needs) (λ c. search needs) (λ c. search needs) (λ c κs. search needs)
+    (λ c. search needs) (λ c κs. search needs) (λ c. search needs) put-part-requires (λ c κs. search needs)
+    (λ c. search needs) put-part-requires-2 (λ c. search needs) returns (λ c. search needs) returns-2)
