@@ -1,3 +1,4 @@
+pub mod CalendarLaws
 pub mod DecimalLaws
 pub mod Demands
 pub mod EdgesHold
@@ -10,6 +11,7 @@ pub mod OneAnswer
 pub mod OriginalWeek
 pub mod RecordLaws
 pub mod Resume
+pub mod Shift
 pub mod Tables
 pub mod Walk
 pub mod WeekLaws

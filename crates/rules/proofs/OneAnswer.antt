@@ -7,7 +7,7 @@ use lib.Dec.{eqb}
 use lib.ListN.{length}
 use Rattle.rules.specs.declared.Record.{Record}
 use Rattle.rules.specs.declared.Refusal.{Refusal}
-use Rattle.rules.specs.declared.Refusal.the-variants.{InvalidTime, InvalidFormatString, FormattedStringTooLarge, WriteZero, InputTooLong, NoBuffer}
+use Rattle.rules.specs.declared.Refusal.the-variants.{InvalidTime, InvalidFormatString, FormattedStringTooLarge, WriteZero, InputTooLong, NoBuffer, OutOfRange}
 use Rattle.rules.specs.declared.Answer.{Answer}
 use Rattle.rules.specs.declared.Answer.the-variants.{Done, Refused}
 use Rattle.rules.specs.Refusal.{numberOf, Report, numbered}
@@ -22,7 +22,8 @@ refusalAt n =
     (cond (eqb n 3) FormattedStringTooLarge
     (cond (eqb n 4) WriteZero
     (cond (eqb n 5) InputTooLong
-    NoBuffer))))
+    (cond (eqb n 6) NoBuffer
+    OutOfRange)))))
 
 answerBy : Report → Answer
 answerBy r = cond (eqb (r .number) 0) (Done (r .bytes)) (Refused (refusalAt (r .number)))
@@ -36,6 +37,7 @@ back (Refused FormattedStringTooLarge) = refl
 back (Refused WriteZero) = refl
 back (Refused InputTooLong) = refl
 back (Refused NoBuffer) = refl
+back (Refused OutOfRange) = refl
 
 pub one-answer : (a b : Answer) → numbered a ≡ numbered b → a ≡ b
 one-answer a b e = sym (back a) ∙ ap answerBy e ∙ back b

@@ -21,6 +21,7 @@ fn name(refusal: Refusal) {
         Refusal::WriteZero => text(b"WriteZero"),
         Refusal::InputTooLong => text(b"InputTooLong"),
         Refusal::NoBuffer => text(b"NoBuffer"),
+        Refusal::OutOfRange => text(b"OutOfRange"),
     }
 }
 

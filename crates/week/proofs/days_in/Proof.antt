@@ -5,7 +5,7 @@ use Prim.Native.Nat.{ℕ}
 use borrow.Author.Needs.{needs}
 use mir.Syntax.{w64}
 use mir.ValLaws.{toZ-ofZ}
-use Rattle.rules.specs.Week.{isLeap, daysIn}
+use Rattle.rules.specs.Calendar.{isLeap, leapDay, daysIn}
 use Rattle.week.proofs.days_in.Statement.{statement}
 use Rattle.week.proofs.days_in.Tie as tie
 
