@@ -61,8 +61,8 @@ leap-sum n =
       ]
     ]
 
-pub one-year : (z : ℕ) → starts (z + 1) ≡ starts z + daysIn (pos (z + 1))
-unfolding starts daysIn
+pub one-year : (z : ℕ) → starts (z + 1) ≡ starts z + (365 + leapDay (pos (z + 1)))
+unfolding starts
 one-year z =
     let l = leap-sum (z + 1) in
     summed z _ _ _ _ _ _ _ _ _ _ fewer (l .1) (rises 4 z (lit< tt)) (rises 100 z (lit< tt)) (rises 400 z (lit< tt)) (l .0)

@@ -1,4 +1,5 @@
 pub mod CalendarLaws
+pub mod Dates
 pub mod DecimalLaws
 pub mod Demands
 pub mod EdgesHold
