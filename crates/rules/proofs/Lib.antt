@@ -1,4 +1,5 @@
 pub mod CalendarLaws
+pub mod CounterLaws
 pub mod Dates
 pub mod DecimalLaws
 pub mod Demands

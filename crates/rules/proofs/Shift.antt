@@ -5,6 +5,7 @@ use native.Mathlib.Nat.{mul-comm, mul-add, add-mul, suc-mul, mod-lt, mod-eq-of-l
 use native.Mathlib.Decide.{decLt}
 use native.Mathlib.Omega.{arith}
 use lib.IntN.{ℤ, pos, negsuc, negℤ, natAbs, subℕ, _+ℤ_, _-ℤ_, _*ℤ_}
+use lib.Signed.{mag}
 use borrow.Author.Tests.{lt-ltb, le-ltb}
 use Rattle.rules.specs.Decimal.{floorDiv, floorMod}
 
@@ -68,6 +69,15 @@ is-times {z = negsuc a} {k = k} {n = n} c h =
 pub is-some : (z : ℤ) (k : ℕ) → natAbs z ≤ k → (n : ℕ) × Is z k n
 is-some (pos a) k h = (a + k, record { diff = refl })
 is-some (negsuc a) k h = (k - suc a, record { diff = omega arith })
+
+-- a number between −b and b − 1
+pub shift-within : {z : ℤ} {k n : ℕ} (b : ℕ) → Is z k n → n < k + b → k ≤ n + b → mag z < b
+shift-within {z = pos a} b i h g = omega arith
+shift-within {z = negsuc a} b i h g = omega arith
+
+pub within-shift : (z : ℤ) {b : ℕ} → mag z < b → (n : ℕ) × Is z b n × (n < b + b)
+within-shift (pos a) {b} h = (a + b, record { diff = refl }, omega arith)
+within-shift (negsuc a) {b} h = (b - suc a, record { diff = omega arith }, omega arith)
 
 -- quotients and remainders by m, of a number that is shifted by a multiple of m
 module _ (m : ℕ) (h : 0 < m) where
