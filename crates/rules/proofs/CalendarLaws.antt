@@ -1,6 +1,6 @@
 -- The definitions are the calendar: day 0 is 1970-01-01, a Thursday, and the day after each day is the next date's.
 use mathlib.Core.Path.{_≡_, refl, sym, ap, _∙_, subst}
-use mathlib.Core.Bool.{Bool, true, false, cond, _&&_, _||_}
+use mathlib.Core.Bool.{Bool, true, false, cond, _&&_}
 use mathlib.Core.List.{sum, foldr}
 use Prim.Native.Nat.{ℕ, zero, suc, _+_, _-_, _*_, _/_, _%_, _<_, _≤_}
 use native.Mathlib.Nat.{div-add-mod, mod-lt, mod-eq-of-lt, div-eq-of-lt, mul-add-div, mul-add-mod-self-left, mod-self, div-self}
@@ -147,9 +147,9 @@ module _ (leap m : ℕ) (h : leap ≤ 1) (from : 1 ≤ m) (to : m ≤ 12) where
   unfolding daysBefore monthDays months sum
   month-in = leb-true _ _ (all-months (λ (leap m : ℕ). leb (daysBefore leap m + monthDays leap m) (365 + leap)) refl refl leap m h from to)
 
-  pub month-after : m < 12 → daysBefore leap (m + 1) ≡ daysBefore leap m + monthDays leap m
+  pub month-after : daysBefore leap (m + 1) ≡ daysBefore leap m + monthDays leap m
   unfolding daysBefore monthDays months sum
-  month-after l = eqb-true _ _ (rw (ne-eqb m 12 (λ e. omega arith)) at (all-months (λ (leap m : ℕ). eqb m 12 || eqb (daysBefore leap (m + 1)) (daysBefore leap m + monthDays leap m)) refl refl leap m h from to))
+  month-after = eqb-true _ _ (all-months (λ (leap m : ℕ). eqb (daysBefore leap (m + 1)) (daysBefore leap m + monthDays leap m)) refl refl leap m h from to)
 
 pub first-day : (y : ℤ) → yearDay y 1 1 ≡ 1
 unfolding yearDay daysBefore sum
@@ -198,7 +198,7 @@ day-after {y = y} {m = m} {d = d} w (in-year l) =
     let h = leap-day-to y in
     record {
       exists = record { month-from = omega arith; month-to = omega arith; day-from = lit≤ tt; day-to = omega (arith, month-from (leapDay y) (m + 1) h (omega arith) (omega arith)) };
-      number = same-year y m _ (m + 1) 1 (omega (arith, month-after (leapDay y) m h (x .month-from) (x .month-to) l)) ∙ ap (λ (z : ℤ). z +ℤ pos 1) (w .number);
+      number = same-year y m _ (m + 1) 1 (omega (arith, month-after (leapDay y) m h (x .month-from) (x .month-to))) ∙ ap (λ (z : ℤ). z +ℤ pos 1) (w .number);
     }
 day-after {y = y} w new-year =
     record {

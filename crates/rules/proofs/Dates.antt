@@ -94,10 +94,10 @@ month-at leap x h k =
 
 -- a later month begins after an earlier one
 months-rise : (leap m k : ℕ) → leap ≤ 1 → 1 ≤ m → m + suc k ≤ 12 → daysBefore leap m + monthDays leap m ≤ daysBefore leap (m + suc k)
-months-rise leap m zero h from to = rw (month-after leap m h from (omega arith) (omega arith)) (omega arith)
+months-rise leap m zero h from to = rw (month-after leap m h from (omega arith)) (omega arith)
 months-rise leap m (suc k) h from to =
     let e : m + suc (suc k) ≡ m + suc k + 1 = omega arith in
-    rw (e, month-after leap (m + suc k) h (omega arith) (omega arith) (omega arith)) (omega (arith, months-rise leap m k h from (omega arith)))
+    rw (e, month-after leap (m + suc k) h (omega arith) (omega arith)) (omega (arith, months-rise leap m k h from (omega arith)))
 
 month-one : (leap x m n : ℕ) → leap ≤ 1 → InMonth leap x m → InMonth leap x n → m ≡ n
 month-one leap x m n h a b =

@@ -1,12 +1,13 @@
 -- Integers as differences of natural numbers: every sum, product, quotient and remainder of ℤ becomes one of ℕ.
 use mathlib.Core.Path.{_≡_, refl, sym, ap, _∙_}
+use mathlib.Core.Bool.{true, false}
 use Prim.Native.Nat.{ℕ, zero, suc, _+_, _-_, _*_, _/_, _%_, _<_, _≤_}
 use native.Mathlib.Nat.{mul-comm, mul-add, add-mul, suc-mul, mod-lt, mod-eq-of-lt, div-eq-of-lt, div-lt-iff-lt-mul, div-add-mod', mul-add-div, add-mul-div-left, add-mul-mod-self-left, mul-add-mod-self-left}
 use native.Mathlib.Decide.{decLt}
 use native.Mathlib.Omega.{arith}
 use lib.IntN.{ℤ, pos, negsuc, negℤ, natAbs, subℕ, _+ℤ_, _-ℤ_, _*ℤ_}
-use lib.Signed.{mag}
-use borrow.Author.Tests.{lt-ltb, le-ltb}
+use lib.Signed.{mag, ltZ}
+use borrow.Author.Tests.{ltb-true, ltb-false, lt-ltb, le-ltb}
 use Rattle.rules.specs.Decimal.{floorDiv, floorMod}
 
 -- z is n − k
@@ -69,6 +70,19 @@ is-times {z = negsuc a} {k = k} {n = n} c h =
 pub is-some : (z : ℤ) (k : ℕ) → natAbs z ≤ k → (n : ℕ) × Is z k n
 is-some (pos a) k h = (a + k, record { diff = refl })
 is-some (negsuc a) k h = (k - suc a, record { diff = omega arith })
+
+-- the order
+pub less : {y z : ℤ} {k m n : ℕ} → Is y k m → Is z k n → ltZ y z ≡ true → m < n
+less {y = pos a} {z = pos b} i j t = omega (arith, ltb-true a b t)
+less {y = pos a} {z = negsuc b} i j t = let e : _≡_ {A = ℕ} 0 1 = cc in absurd (omega arith)
+less {y = negsuc a} {z = pos b} i j t = omega arith
+less {y = negsuc a} {z = negsuc b} i j t = omega (arith, ltb-true b a t)
+
+pub not-less : {y z : ℤ} {k m n : ℕ} → Is y k m → Is z k n → ltZ y z ≡ false → n ≤ m
+not-less {y = pos a} {z = pos b} i j t = omega (arith, ltb-false a b t)
+not-less {y = pos a} {z = negsuc b} i j t = omega arith
+not-less {y = negsuc a} {z = pos b} i j t = let e : _≡_ {A = ℕ} 0 1 = cc in absurd (omega arith)
+not-less {y = negsuc a} {z = negsuc b} i j t = omega (arith, ltb-false b a t)
 
 -- a number between −b and b − 1
 pub shift-within : {z : ℤ} {k n : ℕ} (b : ℕ) → Is z k n → n < k + b → k ≤ n + b → mag z < b

@@ -1,0 +1,3 @@
+pub mod DateLaws
+pub mod LocalLaws
+pub mod MonthLaws

@@ -1,0 +1,30 @@
+use native.Mathlib.Omega.{arith}
+use Rattle.rules.proofs.Dates.{year-guessed, year-short}
+use borrow.Author.Needs.{needs}
+use Rattle.calendar.proofs.year_at.Statement.{statement}
+use Rattle.calendar.proofs.year_at.Tie as tie
+use Rattle.calendar.proofs.year_at.Reads as reads
+use Rattle.calendar.proofs.year_at.Lts as lts
+use Rattle.calendar.proofs.days_of.Reads as days-of-reads
+
+mul-guess : tie.Need-mul-guess
+mul-guess c = search needs
+
+add-days-of : tie.Need-add-days-of
+add-days-of c = search needs
+
+days-of-requires : tie.Need-days-of-requires
+days-of-requires c κs = search needs
+
+add-result : tie.Need-add-result
+add-result c = search needs
+
+returns : tie.Need-returns
+returns c = record { begun = year-guessed _; not-over = omega (arith, c .before .days-of .ensures) }
+
+returns-2 : tie.Need-returns-2
+returns-2 c = year-short _ (omega (arith, c .before .days-of .ensures))
+
+pub year-at-spec : {M : Type 1} → statement M
+year-at-spec =
+    tie.close (tie.spec mul-guess add-days-of days-of-requires add-result returns returns-2)
