@@ -8,7 +8,7 @@ use lib.Signed.{mag}
 use Rattle.rules.specs.Calendar.{leapDay, monthDays, daysBefore, Exists, yearDay, weekdayOf, DateOf}
 use Rattle.rules.proofs.Shift.{Is, move, is-pos, is-add, equal, remainder}
 use Rattle.rules.proofs.YearLaws.{leap-day-to}
-use Rattle.rules.proofs.CalendarLaws.{starts, one-year, leap-is, month-to}
+use Rattle.rules.proofs.CalendarLaws.{starts, one-year, leap-is, month-to, month-after}
 use Rattle.rules.proofs.Dates.{InYear, InMonth, placed-date, day-is}
 use Rattle.calendar.specs.Inner.{DateFor}
 
@@ -63,3 +63,23 @@ date-for {day} {y} {n} {z} {s} {leap} {m} {b} i j w v h e =
       weekday = sym (weekday-is i);
       year-day = rw (leap-is y 730700000 (z + 1) (years j)) (omega (arith, g, h .begun));
     }
+
+-- ## The day of a date
+
+pub starts-to : (z : ℕ) → starts z ≤ 366 * z
+unfolding starts
+starts-to z = omega arith
+
+module _ {y : ℤ} {z s leap m b next : ℕ} (i : Is y 292279999999 z) (v : YearIs z s leap) (from : 1 ≤ m) (to : m ≤ 12) (e : b ≡ daysBefore leap m) (f : next ≡ daysBefore leap (m + 1)) where
+  month-long : b + monthDays (leapDay y) m ≡ next
+  month-long = rw (leap-is y 730700000 (z + 1) (years i), ← v .leap-day) (omega (arith, month-after leap m (v .few) from to))
+
+  pub not-there : {d : ℕ} → next < b + d → Exists y m d → ⊥
+  not-there h x = omega (arith, month-long, x .day-to)
+
+  pub the-day : {day : ℤ} {d : ℕ} → 1 ≤ d → b + d ≤ next → Is day 106753078619162 (s + b + d - 1) → DateOf day y m d
+  the-day {d = d} h k j =
+      record {
+        exists = record { month-from = from; month-to = to; day-from = h; day-to = omega (arith, month-long) };
+        number = equal (rw (← v .leap-day, ← v .start, ← e) at (day-is y m d 730700000 z (years i))) (move (146097 * 730700000 + 719163) (s + (b + d)) (omega arith) j);
+      }

@@ -132,7 +132,7 @@ fn month_at(x: u64, leap: u64) -> u64
 // The days before month m. Month 13 begins the next year.
 fn month_start(m: u64, leap: u64) -> u64
     requires { ⌜ (1 ≤ m) × (m ≤ 13) × (leap ≤ 1) ⌝ }
-    ensures { λ r. ⌜ r ≡ daysBefore leap m ⌝ }
+    ensures { λ r. ⌜ (r ≡ daysBefore leap m) × (r ≤ 366) ⌝ }
 {
     if m < 3 {
         31 * (m - 1)
@@ -223,16 +223,17 @@ pub fn record_from_count(count: i64, utc_offset: i32, nanoseconds: u32, is_utc: 
 pub fn count_from_record(record: Record) -> Counted
     ensures { λ r. ⌜ CountedBy «record» (countedReply r) ⌝ }
 {
-    if record.hour > 23 || record.minute > 59 || record.second > 59 {
+    let hour = record.hour as u64;
+    let minute = record.minute as u64;
+    let second = record.second as u64;
+    if hour > 23 || minute > 59 || second > 59 {
         return Counted::Refused(Refusal::InvalidTime);
     }
     let Day::At(day) = day_at(record.year, record.month, record.day) else {
         return Counted::Refused(Refusal::InvalidTime);
     };
-    let hour = record.hour as i64;
-    let minute = record.minute as i64;
-    let second = record.second as i64;
-    let local = day * 86400 + hour * 3600 + minute * 60 + second;
+    let s = hour * 3600 + minute * 60 + second;
+    let local = day * 86400 + s as i64;
     let offset = record.utc_offset as i64;
     Counted::Count(local - offset)
 }

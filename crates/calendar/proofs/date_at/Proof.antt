@@ -41,7 +41,7 @@ month-start-requires c κs = let m = c .month-at .ensures in (m .from, omega (ar
 
 day-small : (c : tie.After-month-start) → let x = c .before .before .before .before .before .raised .result - c .before .before .before .days-of .result in
     (c .month-start .result ≤ x) × (x - c .month-start .result + 1 ≤ 31)
-day-small c = small (year (c .before .before) .0 .few) (c .before .month-at .ensures) (c .month-start .ensures)
+day-small c = small (year (c .before .before) .0 .few) (c .before .month-at .ensures) (c .month-start .ensures .0)
 
 cast-d : tie.Need-cast-d
 cast-d c = omega (arith, day-small c .1)
@@ -58,7 +58,7 @@ returns : tie.Need-returns
 returns c =
     let d = c .before .before .before in
     rw (toZ-ofZ w64 _ (record { sfits = c .lowered .ok }))
-    (date-for (n-is (d .before .before .before)) (c .lowered .ensures) (d .before .before .year-at .ensures) (year d .0) (c .before .before .month-at .ensures) (c .before .month-start .ensures))
+    (date-for (n-is (d .before .before .before)) (c .lowered .ensures) (d .before .before .year-at .ensures) (year d .0) (c .before .before .month-at .ensures) (c .before .month-start .ensures .0))
 
 pub date-at-spec : {M : Type 1} → statement M
 date-at-spec =

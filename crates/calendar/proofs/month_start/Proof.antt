@@ -1,3 +1,4 @@
+use native.Mathlib.Omega.{arith}
 use Rattle.calendar.proofs.MonthLaws.{before-march, from-march}
 use borrow.Author.Needs.{needs}
 use Rattle.calendar.proofs.month_start.Statement.{statement}
@@ -24,10 +25,10 @@ add-result-2 : tie.Need-add-result-2
 add-result-2 c = search needs
 
 returns : tie.Need-returns
-returns c = let p = c .before .pre in before-march _ _ (p .2) (p .0) (p .1) (c .if1 .taken)
+returns c = let p = c .before .pre in (before-march _ _ (p .2) (p .0) (p .1) (c .if1 .taken), omega arith)
 
 returns-2 : tie.Need-returns-2
-returns-2 c = let p = c .before .pre in from-march _ _ (p .2) (p .0) (p .1) (c .if1 .left)
+returns-2 c = let p = c .before .pre in (from-march _ _ (p .2) (p .0) (p .1) (c .if1 .left), omega arith)
 
 pub month-start-spec : {M : Type 1} → statement M
 month-start-spec =
