@@ -1,3 +1,4 @@
+pub mod CountLaws
 pub mod DateLaws
 pub mod LocalLaws
 pub mod MonthLaws
