@@ -1,5 +1,5 @@
 -- The count of a day, a second of the day and an offset, in the numbers of an i64.
-use mathlib.Core.Path.{_≡_, ap, ap₂}
+use mathlib.Core.Path.{_≡_, ap, ap₂, subst}
 use Prim.Native.Nat.{ℕ, _<_, _≤_}
 use native.Mathlib.Omega.{arith}
 use lib.IntN.{ℤ, pos, _+ℤ_, _-ℤ_, _*ℤ_}
@@ -16,13 +16,15 @@ use Rattle.rules.proofs.CounterLaws.{day-near}
 use Rattle.numbers.proofs.Signed.{through, widened}
 use Rattle.calendar.specs.declared.Day.{Day}
 use Rattle.calendar.specs.declared.Day.the-variants as of-day
-use Rattle.calendar.specs.Inner.{DayFor}
+use Rattle.calendar.specs.Inner.{DayFor, found, missing}
 
-pub there : {y day : ℤ} {m d : ℕ} (r : Day) → DayFor y m d r → r ≡ of-day.At day → DateOf day y m d
-there r h e = rw e at h
+pub there : {y day : ℤ} {m d : ℕ} {r : Day} → DayFor y m d r → r ≡ of-day.At day → DateOf day y m d
+there {y} {m = m} {d = d} (found w) e = subst (λ (n : ℤ). DateOf n y m d) (cc) w
+there (missing f) e = let z : _≡_ {A = ℕ} 0 1 = cc in absurd (omega arith)
 
-pub not-there : {y : ℤ} {m d : ℕ} (r : Day) → DayFor y m d r → r ≡ of-day.Missing → Exists y m d → ⊥
-not-there r h e = rw e at h
+pub not-there : {y : ℤ} {m d : ℕ} {r : Day} → DayFor y m d r → r ≡ of-day.Missing → Exists y m d → ⊥
+not-there (found w) e = let z : _≡_ {A = ℕ} 0 1 = cc in absurd (omega arith)
+not-there (missing f) e = f
 
 -- the days of an i32's years
 pub record Near (day : ℤ) : Type 0 where

@@ -11,9 +11,9 @@ use Rattle.calendar.specs.declared.Day.{Day}
 use Rattle.calendar.specs.declared.Day.the-variants as of-day
 
 -- local time, or that it leaves its type
-abbrev pub LocalFor : ℤ → ℤ → Local → Type 0
-LocalFor count offset (of-local.At local) = (local ≡ count +ℤ offset) × InI64 local
-LocalFor count offset of-local.Out = InI64 (count +ℤ offset) → ⊥
+pub data LocalFor (count offset : ℤ) : Local → Type 0 where
+  at : InI64 (count +ℤ offset) → LocalFor count offset (of-local.At (count +ℤ offset))
+  out : (InI64 (count +ℤ offset) → ⊥) → LocalFor count offset of-local.Out
 
 -- the date of a day, with its weekday and day of the year
 pub record DateFor (day : ℤ) (r : Date) : Type 0 where
@@ -22,6 +22,6 @@ pub record DateFor (day : ℤ) (r : Date) : Type 0 where
   pub year-day : r .«day_of_year» ≡ yearDay (r .year) (r .month) (r .day)
 
 -- the day of a date, or that there is none
-abbrev pub DayFor : ℤ → ℕ → ℕ → Day → Type 0
-DayFor y m d (of-day.At day) = DateOf day y m d
-DayFor y m d of-day.Missing = Exists y m d → ⊥
+pub data DayFor (y : ℤ) (m d : ℕ) : Day → Type 0 where
+  found : {day : ℤ} → DateOf day y m d → DayFor y m d (of-day.At day)
+  missing : (Exists y m d → ⊥) → DayFor y m d of-day.Missing

@@ -35,13 +35,13 @@ returns-2 : tie.Need-returns-2
 unfolding countedReply numberOf
 returns-2 c =
     let d = c .before .before in
-    invalid (λ v. not-there _ (rw (toZ-ofZ w32 _ (year-fits (d .before))) at (d .day-at .ensures)) (c .enum-told .given .1) (v .date))
+    invalid (λ v. not-there (rw (toZ-ofZ w32 _ (year-fits (d .before))) at (d .day-at .ensures)) (c .enum-told .given .1) (v .date))
 
 -- the date, once there is one
 date : (c : tie.After-known-told) → let r = c .before .before .before .before .before .before .before .before .before .before .before .args .«record» in DateOf (c .before .day .given .0 .0) (r .year) (r .month) (r .day)
 date c =
     let d = c .before .before .before in
-    there _ (rw (toZ-ofZ w32 _ (year-fits (d .before))) at (d .day-at .ensures)) (c .before .day .given .1)
+    there (rw (toZ-ofZ w32 _ (year-fits (d .before))) at (d .day-at .ensures)) (c .before .day .given .1)
 
 few : (c : tie.After-known-told) → Near (c .before .day .given .0 .0)
 few c = date-near (year-fits (c .before .before .before .before)) (date c)

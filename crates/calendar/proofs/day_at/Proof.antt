@@ -7,6 +7,7 @@ use borrow.Author.Tests.{ltb-true, ltb-false}
 use mir.Syntax.{w64}
 use mir.ValLaws.{toZ-ofZ}
 use Rattle.rules.proofs.Shift.{Is}
+use Rattle.calendar.specs.Inner.{found, missing}
 use Rattle.numbers.proofs.Signed.{widens, widened}
 use Rattle.calendar.proofs.DateLaws.{YearIs, year-is, starts-to, not-there, the-day}
 use borrow.Author.Needs.{needs}
@@ -14,12 +15,13 @@ use Rattle.calendar.proofs.day_at.Statement.{statement}
 use Rattle.calendar.proofs.day_at.Tie as tie
 
 returns : tie.Need-returns
-returns c x =
+returns c =
     let a = c .before .args in
+    missing (λ x.
     ⊎-elim
     (λ w. omega (arith, x .month-from))
     (⊎-elim (λ w. omega (arith, x .month-to, ltb-true 12 (a .month) (w .1 .taken))) (λ w. omega (arith, x .day-from, ltb-true (a .day) 1 (w .2 .taken))))
-    (c .if1 .came)
+    (c .if1 .came))
 
 within : (c : tie.Else3) → let a = c .before .before .before .args in (1 ≤ a .month) × (a .month ≤ 12) × (1 ≤ a .day)
 within c = (c .before .before .if1 .left, ltb-false _ _ (c .before .if2 .left), ltb-false _ _ (c .if3 .left))
@@ -53,7 +55,7 @@ returns-2 c =
     let m = c .before in
     let y = m .before .before in
     let w = within (y .before .before .before) in
-    not-there (z-is (y .before .before)) (year y .0) (w .0) (w .1) (m .before .month-start .ensures .0) (m .month-start2 .ensures .0) (c .if4 .taken)
+    missing (not-there (z-is (y .before .before)) (year y .0) (w .0) (w .1) (m .before .month-start .ensures .0) (m .month-start2 .ensures .0) (c .if4 .taken))
 
 start-small : (c : tie.After-days-of) → c .days-of .result < 214000000000000
 start-small c = omega (arith, c .days-of .ensures, starts-to (c .before .raised .result), c .before .raised .ensures .1)
@@ -76,7 +78,7 @@ returns-3 c =
     let y = m .before .before in
     let w = within (y .before .before .before) in
     rw (toZ-ofZ w64 _ (record { sfits = c .lowered .ok }))
-    (the-day (z-is (y .before .before)) (year y .0) (w .0) (w .1) (m .before .month-start .ensures .0) (m .month-start2 .ensures .0) (w .2) (c .before .if4 .left) (c .lowered .ensures))
+    (found (the-day (z-is (y .before .before)) (year y .0) (w .0) (w .1) (m .before .month-start .ensures .0) (m .month-start2 .ensures .0) (w .2) (c .before .if4 .left) (c .lowered .ensures)))
 
 pub day-at-spec : {M : Type 1} → statement M
 day-at-spec =

@@ -6,21 +6,6 @@ use Rattle.calendar.proofs.month_at.Tie as tie
 use Rattle.calendar.proofs.month_at.Reads as reads
 use Rattle.calendar.proofs.month_at.Lts as lts
 
-add-march : tie.Need-add-march
-add-march c = search needs
-
-add-result : tie.Need-add-result
-add-result c = search needs
-
-mul-result : tie.Need-mul-result
-mul-result c = search needs
-
-add-result-2 : tie.Need-add-result-2
-add-result-2 c = search needs
-
-add-result-3 : tie.Need-add-result-3
-add-result-3 c = search needs
-
 returns : tie.Need-returns
 unfolding monthAt
 returns c = rw (lt-ltb _ _ (c .if1 .taken)) at (month-at _ _ (c .before .pre .1) (c .before .pre .0))
@@ -31,5 +16,5 @@ returns-2 c = rw (le-ltb _ _ (c .if1 .left)) at (month-at _ _ (c .before .pre .1
 
 pub month-at-spec : {M : Type 1} → statement M
 month-at-spec =
-    tie.close
-    (tie.spec add-march add-result mul-result add-result-2 add-result-3 returns returns-2)
+    tie.close (tie.spec (λ c. search needs) (λ c. search needs) (λ c. search needs) (λ c. search needs)
+    (λ c. search needs) returns returns-2)

@@ -34,5 +34,4 @@ returns-2 : tie.Need-returns-2
 returns-2 c = positive (is-pos w64 _ (c .before .before .fits .x) (c .if1 .left)) (m-is (c .before)) (omega (arith, m-is (c .before))) refl
 
 pub raised-spec : {M : Type 1} → statement M
-raised-spec =
-    tie.close (tie.spec (λ c κs. search needs) (λ c. search needs) sub-result-2 add-result returns returns-2)
+raised-spec = tie.close (tie.spec (λ c κs. search needs) (λ c. search needs) sub-result-2 add-result returns returns-2)

@@ -7,18 +7,6 @@ use Rattle.calendar.proofs.year_at.Reads as reads
 use Rattle.calendar.proofs.year_at.Lts as lts
 use Rattle.calendar.proofs.days_of.Reads as days-of-reads
 
-mul-guess : tie.Need-mul-guess
-mul-guess c = search needs
-
-add-days-of : tie.Need-add-days-of
-add-days-of c = search needs
-
-days-of-requires : tie.Need-days-of-requires
-days-of-requires c κs = search needs
-
-add-result : tie.Need-add-result
-add-result c = search needs
-
 returns : tie.Need-returns
 returns c = record { begun = year-guessed _; not-over = omega (arith, c .before .days-of .ensures) }
 
@@ -27,4 +15,5 @@ returns-2 c = year-short _ (omega (arith, c .before .days-of .ensures))
 
 pub year-at-spec : {M : Type 1} → statement M
 year-at-spec =
-    tie.close (tie.spec mul-guess add-days-of days-of-requires add-result returns returns-2)
+    tie.close (tie.spec (λ c. search needs) (λ c. search needs) (λ c κs. search needs) (λ c. search needs) returns
+    returns-2)
