@@ -1,6 +1,6 @@
 -- The count of a day, a second of the day and an offset, in the numbers of an i64.
 use mathlib.Core.Path.{_≡_, ap, ap₂, subst}
-use Prim.Native.Nat.{ℕ, _<_, _≤_}
+use Prim.Native.Nat.{ℕ, _<_}
 use native.Mathlib.Omega.{arith}
 use lib.IntN.{ℤ, pos, _+ℤ_, _-ℤ_, _*ℤ_}
 use lib.Signed.{mag}
@@ -9,8 +9,8 @@ use mir.Val.{SFits, toZ, ofZ}
 use mir.ValLaws.{toZ-ofZ, toZ-pos}
 use Rattle.rules.specs.declared.Record.{Record}
 use Rattle.rules.specs.declared.Counted.the-variants as of-counted
-use Rattle.rules.specs.Calendar.{Exists, dayNumber, DateOf}
-use Rattle.rules.specs.Counter.{countedReply, secondsOf, OnClock, Countable, countOf, CountedBy, counted}
+use Rattle.rules.specs.Calendar.{Exists, DateOf}
+use Rattle.rules.specs.Counter.{countedReply, secondsOf, OnClock, countOf, CountedBy, counted}
 use Rattle.rules.proofs.Shift.{Is, is-pos, is-add, is-minus, is-times, shift-within, within-shift}
 use Rattle.rules.proofs.CounterLaws.{day-near}
 use Rattle.numbers.proofs.Signed.{through, widened}

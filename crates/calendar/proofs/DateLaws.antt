@@ -1,10 +1,9 @@
 -- The code's numbers of a day and of a date: days and years from 730,700,000 times 400 years before year 1.
-use mathlib.Core.Path.{_≡_, refl, sym, ap, _∙_, subst}
+use mathlib.Core.Path.{_≡_, sym, ap}
 use Prim.Native.Nat.{ℕ, _+_, _-_, _*_, _/_, _%_, _<_, _≤_}
 use native.Mathlib.Omega.{arith}
 use lib.Dec.{lit<}
-use lib.IntN.{ℤ, pos, negsuc, _+ℤ_}
-use lib.Signed.{mag}
+use lib.IntN.{ℤ, pos}
 use Rattle.rules.specs.Calendar.{leapDay, monthDays, daysBefore, Exists, yearDay, weekdayOf, DateOf}
 use Rattle.rules.proofs.Shift.{Is, move, is-pos, is-add, equal, remainder}
 use Rattle.rules.proofs.YearLaws.{leap-day-to}

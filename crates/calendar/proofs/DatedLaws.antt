@@ -8,7 +8,6 @@ use borrow.Author.Tests.{ltb-true, ltb-false}
 use lib.Dec.{lit<}
 use lib.IntN.{ℤ, pos, negsuc, _+ℤ_}
 use lib.Signed.{mag, ltZ}
-use Rattle.rules.specs.declared.Record.{Record}
 use Rattle.rules.specs.declared.Dated.the-variants as of-dated
 use Rattle.rules.specs.declared.Refusal.the-variants.{OutOfRange}
 use Rattle.rules.specs.Record.{InI32, InI64}

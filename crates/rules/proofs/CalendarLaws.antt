@@ -1,16 +1,16 @@
 -- The definitions are the calendar: day 0 is 1970-01-01, a Thursday, and the day after each day is the next date's.
 use mathlib.Core.Path.{_≡_, refl, sym, ap, _∙_, subst}
-use mathlib.Core.Bool.{Bool, true, false, cond, _&&_}
-use mathlib.Core.List.{sum, foldr}
+use mathlib.Core.Bool.{Bool, true, cond, _&&_}
+use mathlib.Core.List.{sum}
 use Prim.Native.Nat.{ℕ, zero, suc, _+_, _-_, _*_, _/_, _%_, _<_, _≤_}
 use native.Mathlib.Nat.{div-add-mod, mod-lt, mod-eq-of-lt, div-eq-of-lt, mul-add-div, mul-add-mod-self-left, mod-self, div-self}
 use native.Mathlib.Decide.{decLt}
 use native.Mathlib.Omega.{arith}
 use lib.Dec.{eqb, leb, lit≤, lit<}
-use lib.IntN.{ℤ, pos, negsuc, natAbs, _+ℤ_, _-ℤ_, _*ℤ_, +ℤ-idr}
+use lib.IntN.{ℤ, pos, negsuc, natAbs, _+ℤ_, _-ℤ_, +ℤ-idr}
 use borrow.Author.Tests.{eq-eqb, ne-eqb, eqb-true, leb-true}
 use Rattle.rules.specs.Decimal.{floorMod}
-use Rattle.rules.specs.Calendar.{isLeap, leapDay, daysIn, months, monthDays, daysBefore, Exists, yearDay, yearStart, dayNumber, weekdayOf, DateOf}
+use Rattle.rules.specs.Calendar.{isLeap, leapDay, daysIn, months, monthDays, daysBefore, yearDay, yearStart, dayNumber, weekdayOf, DateOf}
 use Rattle.rules.proofs.RecordLaws.{both}
 use Rattle.rules.proofs.Shift.{Is, move, equal, is-pos, is-add, is-minus, is-times, is-some, quotient, remainder}
 use Rattle.rules.proofs.YearLaws.{leap-day-to}

@@ -1,15 +1,15 @@
 -- What the promises of the two entries of a counter say of their answers.
 use mathlib.Core.Path.{_≡_, refl, sym, ap, _∙_, subst}
-use mathlib.Core.Bool.{Bool, true, false, _&&_}
+use mathlib.Core.Bool.{Bool}
 use mathlib.Core.List.{List}
 use mathlib.Core.Logic.{_⊎_, inl, inr, _↔_}
-use mathlib.Core.Option.{Option, none, some}
-use Prim.Native.Nat.{ℕ, suc, _+_, _*_, _<_, _≤_}
-use native.Mathlib.Decide.{decLt, decLe}
+use mathlib.Core.Option.{none, some}
+use Prim.Native.Nat.{ℕ, _+_, _*_, _<_, _≤_}
+use native.Mathlib.Decide.{decLt}
 use native.Mathlib.Omega.{arith}
 use borrow.Author.Tests.{le-leb}
-use lib.Dec.{T, leb, le→leb, lit≤, lit<}
-use lib.IntN.{ℤ, pos, negsuc, natAbs, _+ℤ_, _-ℤ_, _*ℤ_, +ℤ-negℤ-cancel}
+use lib.Dec.{T, leb, le→leb, lit<}
+use lib.IntN.{ℤ, pos, negsuc, _+ℤ_, _*ℤ_, +ℤ-negℤ-cancel}
 use lib.Signed.{mag, natAbs-le}
 use Rattle.rules.specs.declared.Record.{Record}
 use Rattle.rules.specs.declared.Spec.{Spec}
@@ -17,8 +17,8 @@ use Rattle.rules.specs.declared.Dated.{Dated}
 use Rattle.rules.specs.declared.Dated.the-variants as of-dated
 use Rattle.rules.specs.declared.Counted.{Counted}
 use Rattle.rules.specs.declared.Counted.the-variants as of-counted
-use Rattle.rules.specs.Record.{InI32, InI64, Field, month, day, hour, minute, second, nanoseconds, weekday, dayOfYear, zoneName, zoneOk, within, okField, InRange}
-use Rattle.rules.specs.Decimal.{floorDiv, floorMod}
+use Rattle.rules.specs.Record.{InI32, InI64, month, day, hour, minute, second, nanoseconds, weekday, dayOfYear, zoneName, zoneOk, within, okField, InRange}
+use Rattle.rules.specs.Decimal.{floorDiv}
 use Rattle.rules.specs.Calendar.{leapDay, daysIn, Exists, yearDay, dayNumber, weekdayOf, DateOf}
 use Rattle.rules.specs.Counter.{Reply, datedReply, countedReply, secondsOf, OnClock, RecordFor, DatedBy, too-many, sum-leaves, year-leaves, made, Countable, countOf, CountedBy, invalid, counted}
 use Rattle.rules.specs.Writing.{fieldsOf, verdict, verdictOf}
@@ -26,7 +26,7 @@ use Rattle.rules.specs.Size.{Typed}
 use Rattle.rules.proofs.FloorLaws.{mod-below, div-mod}
 use Rattle.rules.proofs.OneAnswer.{refusalAt, refusal-at}
 use Rattle.rules.proofs.RecordLaws.{all-ok}
-use Rattle.rules.proofs.Shift.{Is, move, is-pos, is-add, is-minus, is-times, within-shift, shift-within}
+use Rattle.rules.proofs.Shift.{Is, is-pos, is-add, is-minus, is-times, within-shift, shift-within}
 use Rattle.rules.proofs.YearLaws.{leap-day-to, days-to}
 use Rattle.rules.proofs.CalendarLaws.{starts, leap-is, room, month-to, month-in}
 use Rattle.rules.proofs.Dates.{day-is, date-unique}

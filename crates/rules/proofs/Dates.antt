@@ -1,14 +1,14 @@
 -- Every day has exactly one date, and how it is found. k is a number of 400 years by which all is shifted into ℕ.
-use mathlib.Core.Path.{_≡_, refl, sym, ap, _∙_, subst}
+use mathlib.Core.Path.{_≡_, refl, sym, ap, subst}
 use mathlib.Core.Bool.{Bool, true, cond, _&&_}
 use mathlib.Core.List.{sum}
 use Prim.Native.Nat.{ℕ, zero, suc, _+_, _-_, _*_, _/_, _<_, _≤_}
 use native.Mathlib.Decide.{decLt}
 use native.Mathlib.Omega.{arith}
 use lib.Dec.{leb, ltb}
-use lib.IntN.{ℤ, pos, natAbs, _+ℤ_, _-ℤ_}
+use lib.IntN.{ℤ, pos, natAbs, _-ℤ_}
 use borrow.Author.Tests.{leb-true, ltb-true}
-use Rattle.rules.specs.Calendar.{leapDay, months, monthDays, daysBefore, Exists, yearDay, yearStart, dayNumber, DateOf}
+use Rattle.rules.specs.Calendar.{leapDay, months, monthDays, daysBefore, yearDay, dayNumber, DateOf}
 use Rattle.rules.proofs.RecordLaws.{both}
 use Rattle.rules.proofs.Shift.{Is, move, same, equal, is-pos, is-add, is-minus, is-some}
 use Rattle.rules.proofs.YearLaws.{leap-day-to}
@@ -180,6 +180,10 @@ date-exists n =
     let leap = leapDay (pos (z + 1)) in
     let x = v .0 - starts z in
     let y = pos (z + 1) -ℤ pos (400 * k) in
-    let h = month-at leap x (leap-day-to (pos (z + 1))) (omega (arith, one-year z, w .1 .begun, w .1 .not-over)) in
-    (y, monthAt leap x, x - daysBefore leap (monthAt leap x) + 1, placed-date n y k (v .0) z _ _ (v .1)
-    (move (400 * k) (z + 1) (omega arith) (is-minus (is-pos (z + 1)) (is-pos (400 * k)))) (record { year = w .1; month = h; day = omega (arith, h .begun) }))
+    let h = month-at leap x (leap-day-to (pos (z + 1))) (omega (arith, one-year z, w .1 .begun, w .1 .not-over)) in (
+      y,
+      monthAt leap x,
+      x - daysBefore leap (monthAt leap x) + 1,
+      placed-date n y k (v .0) z _ _ (v .1)
+          (move (400 * k) (z + 1) (omega arith) (is-minus (is-pos (z + 1)) (is-pos (400 * k)))) (record { year = w .1; month = h; day = omega (arith, h .begun) }),
+    )

@@ -3,13 +3,13 @@ use mathlib.Core.Logic.{⊎-elim}
 use Prim.Native.Nat.{_<_}
 use native.Mathlib.Omega.{arith}
 use borrow.Author.Tests.{ltb-true, ltb-false}
-use mir.Syntax.{w32, w64}
+use mir.Syntax.{w32}
 use mir.Val.{SFits}
 use mir.ValLaws.{toZ-ofZ}
 use Rattle.rules.specs.Refusal.{numberOf}
 use Rattle.rules.specs.Calendar.{DateOf}
 use Rattle.rules.specs.Counter.{secondsOf, OnClock, countedReply, invalid}
-use Rattle.numbers.proofs.Signed.{widens, widened}
+use Rattle.numbers.proofs.Signed.{widens}
 use Rattle.calendar.proofs.CountLaws.{there, not-there, Near, date-near, days-asks, local-asks, count-asks, count-read, is-counted}
 use borrow.Author.Needs.{needs}
 use Rattle.calendar.proofs.count_from_record.Statement.{statement}

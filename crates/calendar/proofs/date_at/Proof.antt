@@ -1,12 +1,9 @@
 -- The year, the month and the day, each from the days that are left.
-use mathlib.Core.Path.{_≡_}
 use Prim.Native.Nat.{_+_, _-_, _<_, _≤_}
 use native.Mathlib.Omega.{arith}
 use mir.Syntax.{w64}
 use mir.ValLaws.{toZ-ofZ}
-use Rattle.rules.specs.Calendar.{daysBefore}
 use Rattle.rules.proofs.Shift.{Is}
-use Rattle.rules.proofs.Dates.{InMonth}
 use Rattle.calendar.proofs.DateLaws.{YearIs, year-is, inside, few-years, small, date-for}
 use borrow.Author.Needs.{needs}
 use Rattle.calendar.proofs.date_at.Statement.{statement}

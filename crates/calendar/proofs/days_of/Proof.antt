@@ -1,10 +1,9 @@
+-- The formula, as it stands.
 use mathlib.Core.Path.{refl}
 use Rattle.rules.proofs.CalendarLaws.{starts}
 use borrow.Author.Needs.{needs}
 use Rattle.calendar.proofs.days_of.Statement.{statement}
 use Rattle.calendar.proofs.days_of.Tie as tie
-use Rattle.calendar.proofs.days_of.Reads as reads
-use Rattle.calendar.proofs.days_of.Lts as lts
 
 returns : tie.Need-returns
 unfolding starts

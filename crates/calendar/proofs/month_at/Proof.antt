@@ -1,10 +1,9 @@
+-- The formula on each side of March 1.
 use borrow.Author.Tests.{lt-ltb, le-ltb}
 use Rattle.rules.proofs.Dates.{monthAt, month-at}
 use borrow.Author.Needs.{needs}
 use Rattle.calendar.proofs.month_at.Statement.{statement}
 use Rattle.calendar.proofs.month_at.Tie as tie
-use Rattle.calendar.proofs.month_at.Reads as reads
-use Rattle.calendar.proofs.month_at.Lts as lts
 
 returns : tie.Need-returns
 unfolding monthAt

@@ -1,10 +1,9 @@
+-- The formula on each side of March.
 use native.Mathlib.Omega.{arith}
 use Rattle.calendar.proofs.MonthLaws.{before-march, from-march}
 use borrow.Author.Needs.{needs}
 use Rattle.calendar.proofs.month_start.Statement.{statement}
 use Rattle.calendar.proofs.month_start.Tie as tie
-use Rattle.calendar.proofs.month_start.Reads as reads
-use Rattle.calendar.proofs.month_start.Lts as lts
 
 returns : tie.Need-returns
 returns c = let p = c .before .pre in (before-march _ _ (p .2) (p .0) (p .1) (c .if1 .taken), omega arith)

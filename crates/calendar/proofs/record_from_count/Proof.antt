@@ -1,13 +1,12 @@
 -- Nanoseconds, the sum, the date, the year; then the record.
 use mathlib.Core.Path.{_≡_, ap, _∙_}
 use mathlib.Core.Logic.{inl, inr, ⊎-elim}
-use Prim.Native.Nat.{_≤_}
 use native.Mathlib.Omega.{arith}
 use mir.Syntax.{w32, w64}
-use mir.Val.{SFits, toZ, ofZ}
+use mir.Val.{toZ, ofZ}
 use mir.ValLaws.{toZ-ofZ}
-use lib.IntN.{ℤ, _+ℤ_}
-use Rattle.rules.specs.Record.{InI32, InI64}
+use lib.IntN.{ℤ}
+use Rattle.rules.specs.Record.{InI32}
 use Rattle.rules.specs.Refusal.{numberOf}
 use Rattle.rules.specs.Decimal.{floorDiv, floorMod}
 use Rattle.rules.specs.Counter.{datedReply, too-many, sum-leaves}

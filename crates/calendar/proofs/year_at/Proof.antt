@@ -1,11 +1,9 @@
+-- The guess, or one more.
 use native.Mathlib.Omega.{arith}
 use Rattle.rules.proofs.Dates.{year-guessed, year-short}
 use borrow.Author.Needs.{needs}
 use Rattle.calendar.proofs.year_at.Statement.{statement}
 use Rattle.calendar.proofs.year_at.Tie as tie
-use Rattle.calendar.proofs.year_at.Reads as reads
-use Rattle.calendar.proofs.year_at.Lts as lts
-use Rattle.calendar.proofs.days_of.Reads as days-of-reads
 
 returns : tie.Need-returns
 returns c = record { begun = year-guessed _; not-over = omega (arith, c .before .days-of .ensures) }
