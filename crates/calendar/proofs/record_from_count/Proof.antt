@@ -1,6 +1,7 @@
 -- Nanoseconds, the sum, the date, the year; then the record.
 use mathlib.Core.Path.{_≡_, ap, _∙_}
 use mathlib.Core.Logic.{inl, inr, ⊎-elim}
+use Prim.Native.Nat.{_≤_}
 use native.Mathlib.Omega.{arith}
 use mir.Syntax.{w32, w64}
 use mir.Val.{toZ, ofZ}
@@ -19,7 +20,10 @@ use Rattle.calendar.proofs.record_from_count.Tie as tie
 
 returns : tie.Need-returns
 unfolding datedReply numberOf
-returns c = too-many (c .if1 .taken)
+returns c = too-many (omega arith)
+
+few-nanos : (c : tie.Else1) → c .before .args .nanoseconds ≤ 999999999
+few-nanos c = omega arith
 
 module _ (s : tie.Start) where
   c-is : toZ w64 (ofZ w64 (s .args .count)) ≡ s .args .count
@@ -33,7 +37,7 @@ local c = let s = c .before .before in rw (c-is s, o-is s) at (c .local-time .en
 
 returns-2 : tie.Need-returns-2
 unfolding datedReply numberOf
-returns-2 c = let l = c .before .before in sum-leaves (l .before .if1 .left) (local-out (local l) (c .enum-told .given .1))
+returns-2 c = let l = c .before .before in sum-leaves (few-nanos (l .before)) (local-out (local l) (c .enum-told .given .1))
 
 split : (c : tie.After-moment-of) → let a = c .before .before .before .before .before .before .args in Split (a .count) (a .utc-offset) (c .moment-of .result .day) (c .moment-of .result .second)
 split c =
@@ -54,7 +58,7 @@ returns-3 : tie.Need-returns-3
 returns-3 c =
     let t = c .before in
     let d = t .before in
-    out-of-range _ _ (d .before .before .before .before .before .before .before .if1 .left) (split (d .before .before)) (date d)
+    out-of-range _ _ (few-nanos (d .before .before .before .before .before .before .before)) (split (d .before .before)) (date d)
     (year-out (d .date-at .result .year) (⊎-elim (λ w. inl (rw (y-is t) at (w .taken))) (λ w. inr (rw (y-is t) at (w .1 .taken))) (c .if2 .came)))
 
 year-fits : (c : tie.Else3) → InI32 (c .before .before .before .date-at .result .year)
@@ -72,7 +76,7 @@ returns-4 c =
     let d = t .before in
     let s = d .before .before .before .before .before .before .before .before in
     rw (y-is t, toZ-ofZ w32 _ (record { sfits = year-fits c }), c-is s, o-is s)
-    (is-made _ _ (d .before .before .before .before .before .before .before .if1 .left) (split (d .before .before)) (date d) (year-fits c))
+    (is-made _ _ (few-nanos (d .before .before .before .before .before .before .before)) (split (d .before .before)) (date d) (year-fits c))
 
 pub record-from-count-spec : {M : Type 1} → statement M
 record-from-count-spec =
