@@ -92,7 +92,7 @@ module _ (count offset : ℤ) (nanos : ℕ) (utc : Bool) where
   not-both r y m d f a w out =
       out (subst InI32 (date-unique (floorDiv (count +ℤ offset) 86400) (r .year) y (r .month) m (r .day) d (a .date) w .0) f)
 
-  same-dated : (a b : Reply Record) → DatedBy count offset nanos utc a → DatedBy count offset nanos utc b → a ≡ b
+  pub same-dated : (a b : Reply Record) → DatedBy count offset nanos utc a → DatedBy count offset nanos utc b → a ≡ b
   same-dated a b (too-many h) (too-many k) = refl
   same-dated a b (too-many h) (sum-leaves k s) = absurd (omega arith)
   same-dated a b (too-many h) (year-leaves k w s) = absurd (omega arith)
@@ -113,7 +113,7 @@ module _ (count offset : ℤ) (nanos : ℕ) (utc : Bool) where
   pub dated-once : (a b : Dated) → DatedBy count offset nanos utc (datedReply a) → DatedBy count offset nanos utc (datedReply b) → a ≡ b
   dated-once a b p q = sym (dated-back a) ∙ ap datedBy (same-dated _ _ p q) ∙ dated-back b
 
-same-counted : (r : Record) (a b : Reply ℤ) → CountedBy r a → CountedBy r b → a ≡ b
+pub same-counted : (r : Record) (a b : Reply ℤ) → CountedBy r a → CountedBy r b → a ≡ b
 same-counted r a b (invalid f) (invalid g) = refl
 same-counted r a b (invalid f) (counted w) = absurd (f w)
 same-counted r a b (counted v) (invalid g) = absurd (g v)
