@@ -16,7 +16,7 @@ use rules::Dated;
 use rules::Record;
 use rules::Refusal;
 
-// The days from there to 1970-01-01, and the years to year 1.
+// The days from there to 1970-01-01, and the years to year 0.
 const EPOCH: u64 = 106753078619162;
 
 const YEARS: u64 = 292279999999;
@@ -44,7 +44,7 @@ enum Day {
     Missing,
 }
 
-// A signed number plus `by`, and back.
+// A number plus `by`, and back.
 fn raised(x: i64, by: u64) -> u64
     requires { ⌜ (mag x < by) × (by < 281474976710656) ⌝ }
     ensures { λ r. ⌜ Is x by r × (r < by + by) ⌝ }
@@ -103,7 +103,7 @@ fn days_of(z: u64) -> u64
     365 * z + z / 4 - z / 100 + z / 400
 }
 
-// The years before day n.
+// The years that have passed on day n.
 fn year_at(n: u64) -> u64
     requires { ⌜ n < 281474976710656 ⌝ }
     ensures { λ r. ⌜ InYear n r ⌝ }

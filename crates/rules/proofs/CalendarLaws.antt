@@ -19,6 +19,12 @@ pub epoch : (dayNumber (pos 1970) 1 1 ≡ pos 0) × (weekdayOf (pos 0) ≡ 4)
 unfolding dayNumber yearStart yearDay daysBefore leapDay isLeap months weekdayOf sum
 epoch = (refl, refl)
 
+-- the first and the last day of an i32's years, two leap days and a Monday
+pub known-days : (dayNumber (negsuc 2147483647) 1 1 ≡ negsuc 784353015832) × (dayNumber (pos 2147483647) 12 31 ≡ pos 784351576776)
+    × (dayNumber (pos 0) 2 29 ≡ negsuc 719468) × (dayNumber (pos 2000) 2 29 ≡ pos 11016) × (weekdayOf (dayNumber (pos 2024) 12 30) ≡ 1)
+unfolding dayNumber yearStart yearDay daysBefore leapDay isLeap months weekdayOf sum
+known-days = (refl, refl, refl, refl, refl)
+
 -- ## Years, shifted into ℕ by a number of 400 years
 
 -- the days of z years from a year 1 on

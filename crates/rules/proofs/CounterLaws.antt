@@ -34,19 +34,19 @@ use Rattle.rules.proofs.Dates.{day-is, date-unique}
 -- ## Any two answers are equal
 
 -- an answer is known by its number and value
-datedBy : Reply Record → Dated
-datedBy r = elim (r .value) [ some v ↦ of-dated.Made v | none ↦ of-dated.Refused (refusalAt (r .number)) ]
+datedFrom : Reply Record → Dated
+datedFrom r = elim (r .value) [ some v ↦ of-dated.Made v | none ↦ of-dated.Refused (refusalAt (r .number)) ]
 
-dated-back : (a : Dated) → datedBy (datedReply a) ≡ a
-unfolding datedBy datedReply
+dated-back : (a : Dated) → datedFrom (datedReply a) ≡ a
+unfolding datedFrom datedReply
 dated-back (of-dated.Made r) = refl
 dated-back (of-dated.Refused e) = ap of-dated.Refused (refusal-at e .1)
 
-countedBy : Reply ℤ → Counted
-countedBy r = elim (r .value) [ some v ↦ of-counted.Count v | none ↦ of-counted.Refused (refusalAt (r .number)) ]
+countedFrom : Reply ℤ → Counted
+countedFrom r = elim (r .value) [ some v ↦ of-counted.Count v | none ↦ of-counted.Refused (refusalAt (r .number)) ]
 
-counted-back : (a : Counted) → countedBy (countedReply a) ≡ a
-unfolding countedBy countedReply
+counted-back : (a : Counted) → countedFrom (countedReply a) ≡ a
+unfolding countedFrom countedReply
 counted-back (of-counted.Count c) = refl
 counted-back (of-counted.Refused e) = ap of-counted.Refused (refusal-at e .1)
 
@@ -111,7 +111,7 @@ module _ (count offset : ℤ) (nanos : ℕ) (utc : Bool) where
   same-dated a b (made h f g p) (made k f′ g′ q) = ap (λ (r : Record). record { number = 0; value = some r }) (record-unique _ _ p q)
 
   pub dated-once : (a b : Dated) → DatedBy count offset nanos utc (datedReply a) → DatedBy count offset nanos utc (datedReply b) → a ≡ b
-  dated-once a b p q = sym (dated-back a) ∙ ap datedBy (same-dated _ _ p q) ∙ dated-back b
+  dated-once a b p q = sym (dated-back a) ∙ ap datedFrom (same-dated _ _ p q) ∙ dated-back b
 
 pub same-counted : (r : Record) (a b : Reply ℤ) → CountedBy r a → CountedBy r b → a ≡ b
 same-counted r a b (invalid f) (invalid g) = refl
@@ -120,7 +120,7 @@ same-counted r a b (counted v) (invalid g) = absurd (g v)
 same-counted r a b (counted v) (counted w) = refl
 
 pub counted-once : (r : Record) (a b : Counted) → CountedBy r (countedReply a) → CountedBy r (countedReply b) → a ≡ b
-counted-once r a b p q = sym (counted-back a) ∙ ap countedBy (same-counted r _ _ p q) ∙ counted-back b
+counted-once r a b p q = sym (counted-back a) ∙ ap countedFrom (same-counted r _ _ p q) ∙ counted-back b
 
 -- ## The way in
 

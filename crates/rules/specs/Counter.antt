@@ -32,7 +32,7 @@ countedReply (of-counted.Refused e) = record { number = numberOf e; value = none
 abbrev pub secondsOf : Record → ℕ
 secondsOf r = r .hour * 3600 + r .minute * 60 + r .second
 
--- "second at most 59"
+-- hour and minute in range, "second at most 59"
 pub record OnClock (r : Record) : Type 0 where
   pub hour : r .hour ≤ 23
   pub minute : r .minute ≤ 59
