@@ -55,7 +55,9 @@ enum {
     /* InputTooLong: an input is longer than the lengths above. It comes before every other refusal. */
     gs_INPUT_TOO_LONG = 5,
     /* NoBuffer, of gs_size only: some record with all fields in range has its text in no buffer of 65,536 bytes. */
-    gs_NO_BUFFER = 6
+    gs_NO_BUFFER = 6,
+    /* OutOfRange, of gs_record_from_count only: count plus offset leaves an int64_t, or its year an int32_t. */
+    gs_OUT_OF_RANGE = 7
 };
 
 /* The fields are independent: nothing asks that the weekday and the date agree. A field is checked where a directive
@@ -110,6 +112,28 @@ gs_answer gs_format(const uint8_t *format, size_t format_len,
 
    Refused, in this order: gs_INPUT_TOO_LONG (longest_zone above 64 too), gs_INVALID_FORMAT_STRING, gs_NO_BUFFER. */
 gs_answer gs_size(const uint8_t *format, size_t format_len, size_t longest_zone);
+
+typedef struct {
+    uint32_t refusal; /* gs_DONE, gs_INVALID_TIME or gs_OUT_OF_RANGE */
+    gs_record record; /* every field 0 where refused */
+} gs_dated;
+
+typedef struct {
+    uint32_t refusal; /* gs_DONE or gs_INVALID_TIME */
+    int64_t count;    /* 0 where refused */
+} gs_counted;
+
+/* Gives the record of an instant: count is in seconds since 1970-01-01 00:00:00 UTC, and local time is count plus
+   utc_offset, by the proleptic Gregorian calendar. Every field is in range, second is at most 59, day_of_week and
+   day_of_year are the date's, to_int is the count, and is_utc is 1 where the one passed is not 0, else 0.
+
+   Refused, in this order: gs_INVALID_TIME (nanoseconds above 999,999,999), gs_OUT_OF_RANGE. */
+gs_dated gs_record_from_count(int64_t count, int32_t utc_offset, uint32_t nanoseconds, uint8_t is_utc);
+
+/* Gives the count back. Date, time and utc_offset are read, and no other field.
+
+   Refused with gs_INVALID_TIME: a date that does not exist, an hour above 23, a minute or a second above 59. */
+gs_counted gs_count_from_record(gs_record record);
 
 #ifdef __cplusplus
 }

@@ -15,7 +15,8 @@ use Rattle.rules.specs.Record.{longestZone, longestBuffer}
 use Rattle.rules.specs.Refusal.{ByEvent}
 use Rattle.rules.specs.Event.{Event, textOf, Count, at, no, tally, done, refused, outcomeOf, run, reported, bufferAfter}
 use Rattle.rules.specs.Decimal.{floorMod}
-use Rattle.rules.specs.Week.{daysIn, thursdayRule}
+use Rattle.rules.specs.Calendar.{daysIn}
+use Rattle.rules.specs.Week.{thursdayRule}
 use Rattle.rules.specs.Writing.{valueOf}
 use Rattle.rules.specs.Format.{items, read, ending, events, limitOf, formatEvents, formatted}
 use Rattle.rules.proofs.WeekLaws.{iso-exists}

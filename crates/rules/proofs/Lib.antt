@@ -1,3 +1,6 @@
+pub mod CalendarLaws
+pub mod CounterLaws
+pub mod Dates
 pub mod DecimalLaws
 pub mod Demands
 pub mod EachItem
@@ -13,6 +16,7 @@ pub mod OriginalWeek
 pub mod PutsShort
 pub mod RecordLaws
 pub mod Resume
+pub mod Shift
 pub mod Tables
 pub mod TooWide
 pub mod UnreadFields

@@ -1,13 +1,13 @@
 -- Any two answers that an entry's promise allows are equal: what is promised is a function, and no two answers report alike.
 use mathlib.Core.Path.{_≡_, refl, sym, ap, _∙_}
-use mathlib.Core.Bool.{cond}
+use mathlib.Core.Bool.{false, cond}
 use mathlib.Core.List.{List}
 use Prim.Native.Nat.{ℕ}
 use lib.Dec.{eqb}
 use lib.ListN.{length}
 use Rattle.rules.specs.declared.Record.{Record}
 use Rattle.rules.specs.declared.Refusal.{Refusal}
-use Rattle.rules.specs.declared.Refusal.the-variants.{InvalidTime, InvalidFormatString, FormattedStringTooLarge, WriteZero, InputTooLong, NoBuffer}
+use Rattle.rules.specs.declared.Refusal.the-variants.{InvalidTime, InvalidFormatString, FormattedStringTooLarge, WriteZero, InputTooLong, NoBuffer, OutOfRange}
 use Rattle.rules.specs.declared.Answer.{Answer}
 use Rattle.rules.specs.declared.Answer.the-variants.{Done, Refused}
 use Rattle.rules.specs.Refusal.{numberOf, Report, numbered}
@@ -15,27 +15,33 @@ use Rattle.rules.specs.Event.{reported, bufferAfter}
 use Rattle.rules.specs.Format.{formatted}
 
 -- back from a number of the table, and from a report
-refusalAt : ℕ → Refusal
+unfoldable pub refusalAt : ℕ → Refusal
 refusalAt n =
     cond (eqb n 1) InvalidTime
     (cond (eqb n 2) InvalidFormatString
     (cond (eqb n 3) FormattedStringTooLarge
     (cond (eqb n 4) WriteZero
     (cond (eqb n 5) InputTooLong
-    NoBuffer))))
+    (cond (eqb n 6) NoBuffer
+    OutOfRange)))))
+
+pub refusal-at : (e : Refusal) → (eqb (numberOf e) 0 ≡ false) × (refusalAt (numberOf e) ≡ e)
+unfolding refusalAt numberOf
+refusal-at InvalidTime = (refl, refl)
+refusal-at InvalidFormatString = (refl, refl)
+refusal-at FormattedStringTooLarge = (refl, refl)
+refusal-at WriteZero = (refl, refl)
+refusal-at InputTooLong = (refl, refl)
+refusal-at NoBuffer = (refl, refl)
+refusal-at OutOfRange = (refl, refl)
 
 answerBy : Report → Answer
 answerBy r = cond (eqb (r .number) 0) (Done (r .bytes)) (Refused (refusalAt (r .number)))
 
 back : (a : Answer) → answerBy (numbered a) ≡ a
-unfolding answerBy refusalAt numbered numberOf
+unfolding answerBy numbered
 back (Done n) = refl
-back (Refused InvalidTime) = refl
-back (Refused InvalidFormatString) = refl
-back (Refused FormattedStringTooLarge) = refl
-back (Refused WriteZero) = refl
-back (Refused InputTooLong) = refl
-back (Refused NoBuffer) = refl
+back (Refused e) = let r = refusal-at e in rw (r .0) (ap Refused (r .1))
 
 pub one-answer : (a b : Answer) → numbered a ≡ numbered b → a ≡ b
 one-answer a b e = sym (back a) ∙ ap answerBy e ∙ back b

@@ -10,7 +10,8 @@ use lib.Dec.{T, ltb, leb, ltb→lt, nltb→le, leb→le}
 use lib.IntN.{ℤ, pos, negsuc, negℤ, _+ℤ_, _-ℤ_}
 use lib.Signed.{ltZ, leZ, quotZ, remZ}
 use Rattle.rules.specs.Decimal.{floorMod}
-use Rattle.rules.specs.Week.{isLeap, daysIn, sinceMonday, YearAndWeek, startOfFirstWeek, inLastWeek, currentOrNext, iso8601YearAndWeekNumber}
+use Rattle.rules.specs.Calendar.{isLeap, daysIn}
+use Rattle.rules.specs.Week.{sinceMonday, YearAndWeek, startOfFirstWeek, inLastWeek, currentOrNext, iso8601YearAndWeekNumber}
 use Rattle.rules.proofs.EventLaws.{splitOn}
 use Rattle.rules.proofs.FloorLaws.{sub-le, sub-cases, sub-add, sub-sub, lt-sub, le-sub, mod7-sub}
 use Rattle.rules.proofs.YearLaws.{days-from, days-to, days-are, last-is}

@@ -9,7 +9,8 @@ use lib.IntN.{ℤ, pos, _+ℤ_, _-ℤ_, +ℤ-negℤ-cancel}
 use lib.Signed.{mag}
 use Rattle.rules.specs.declared.IsoWeek.{IsoWeek}
 use Rattle.rules.specs.Decimal.{floorMod}
-use Rattle.rules.specs.Week.{weekNumber, daysIn, sinceMonday, thursdayOf, weekHolding, thursdayRule, isoWeek, currentOrNext, iso8601YearAndWeekNumber}
+use Rattle.rules.specs.Calendar.{daysIn}
+use Rattle.rules.specs.Week.{weekNumber, sinceMonday, thursdayOf, weekHolding, thursdayRule, isoWeek, currentOrNext, iso8601YearAndWeekNumber}
 use Rattle.rules.proofs.EventLaws.{splitOn}
 use Rattle.rules.proofs.FloorLaws.{sub-le, sub-lt, sub-add, mod7-sub, mag-inc, mag-dec}
 use Rattle.rules.proofs.YearLaws.{days-from, days-to}

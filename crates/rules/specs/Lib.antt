@@ -3,6 +3,8 @@ pub mod Record
 pub mod Refusal
 pub mod Event
 pub mod Decimal
+pub mod Calendar
+pub mod Counter
 pub mod Name
 pub mod Week
 pub mod Offset

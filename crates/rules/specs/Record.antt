@@ -1,9 +1,10 @@
 -- The record, the longest inputs and the ranges (01, "What is bought" and "Writing a directive").
 use mathlib.Core.Bool.{Bool, true, false, _&&_}
 use mathlib.Core.List.{List, [], _∷_}
-use Prim.Native.Nat.{ℕ}
+use Prim.Native.Nat.{ℕ, _<_}
 use lib.Dec.{T, ltb, leb}
 use lib.IntN.{ℤ}
+use lib.Signed.{mag}
 use Rattle.rules.specs.declared.Record.{Record}
 
 -- "Longest inputs: format 4,096 bytes, zone 64, buffer 65,536."
@@ -15,6 +16,13 @@ longestZone = 64
 
 abbrev pub longestBuffer : ℕ
 longestBuffer = 65536
+
+-- the numbers of an i32 and of an i64. mag z is n of n and of −(n + 1)
+abbrev pub InI32 : ℤ → Type 0
+InI32 z = mag z < 2147483648
+
+abbrev pub InI64 : ℤ → Type 0
+InI64 z = mag z < 9223372036854775808
 
 -- a record by its fields, in their order
 abbrev pub recordOf : ℤ → ℕ → ℕ → ℕ → ℕ → ℕ → ℕ → ℕ → ℕ → ℤ → Bool → ℤ → Record

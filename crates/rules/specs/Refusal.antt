@@ -1,7 +1,7 @@
 -- The refusal table (01, "Refusal table"), and what an entry reports.
 use Prim.Native.Nat.{ℕ}
 use Rattle.rules.specs.declared.Refusal.{Refusal}
-use Rattle.rules.specs.declared.Refusal.the-variants.{InvalidTime, InvalidFormatString, FormattedStringTooLarge, WriteZero, InputTooLong, NoBuffer}
+use Rattle.rules.specs.declared.Refusal.the-variants.{InvalidTime, InvalidFormatString, FormattedStringTooLarge, WriteZero, InputTooLong, NoBuffer, OutOfRange}
 use Rattle.rules.specs.declared.Answer.{Answer}
 use Rattle.rules.specs.declared.Answer.the-variants.{Done, Refused}
 
@@ -12,6 +12,7 @@ numberOf FormattedStringTooLarge = 3
 numberOf WriteZero = 4
 numberOf InputTooLong = 5
 numberOf NoBuffer = 6
+numberOf OutOfRange = 7
 
 -- the refusals that an event of a format can give
 pub data ByEvent : ℕ → Type 0 where

@@ -5,10 +5,8 @@ use mathlib.Core.List.{List}
 use mathlib.Core.Logic.{_⊎_}
 use Prim.Native.Nat.{ℕ, suc, _≤_, _<_}
 use lib.ListN.{length}
-use lib.IntN.{ℤ}
-use lib.Signed.{mag}
 use Rattle.rules.specs.declared.Record.{Record}
-use Rattle.rules.specs.Record.{InRange, longestFormat, longestZone, longestBuffer}
+use Rattle.rules.specs.Record.{InI32, InI64, InRange, longestFormat, longestZone, longestBuffer}
 use Rattle.rules.specs.Refusal.{Report}
 use Rattle.rules.specs.Event.{Outcome, done, refused, textOf}
 use Rattle.rules.specs.Writing.{eventsOf}
@@ -55,9 +53,9 @@ pub data Sizing (Every Some : Stamps) (format : List ℕ) (longest : ℕ) : Repo
 
 -- the numbers of a record fit their types
 pub record Typed (r : Record) : Type 0 where
-  pub year : mag (r .year) < 2147483648
-  pub to-int : mag (r .«to_int») < 9223372036854775808
-  pub utc-offset : mag (r .«utc_offset») < 2147483648
+  pub year : InI32 (r .year)
+  pub to-int : InI64 (r .«to_int»)
+  pub utc-offset : InI32 (r .«utc_offset»)
 
 -- "every record whose zone name is no longer than that"
 pub record AnyStamp (longest : ℕ) (r : Record) (zone : List ℕ) : Type 0 where

@@ -1,11 +1,12 @@
 -- Week numbers (01, "`U`, `W`" and "`G`, `g`, `V`"), the Thursday rule of ISO 8601, and the original's function beside it.
-use mathlib.Core.Bool.{Bool, true, false, cond, not, _&&_, _||_}
+use mathlib.Core.Bool.{Bool, true, false, cond, _&&_}
 use Prim.Native.Nat.{ℕ, zero, suc, _+_, _-_, _/_, _%_}
 use lib.Dec.{ltb, leb, eqb}
 use lib.IntN.{ℤ, pos, negsuc, _+ℤ_, _-ℤ_}
 use lib.Signed.{ltZ, leZ, quotZ, remZ}
 use Rattle.rules.specs.declared.IsoWeek.{IsoWeek}
 use Rattle.rules.specs.Decimal.{floorMod}
+use Rattle.rules.specs.Calendar.{isLeap, daysIn}
 
 -- "with d the zero-based day and s = (d − weekday) mod 7 for `U`, (d − weekday + 1) mod 7 for `W`, the number is (d + 7 − s) / 7":
 -- start is 0 for `U` and 1 for `W`
@@ -13,12 +14,6 @@ unfoldable pub weekNumber : ℕ → ℕ → ℕ → ℕ
 weekNumber start weekday day =
     let d = day - 1 in
     (d + 7 - floorMod (pos d -ℤ pos weekday +ℤ pos start) 7) / 7
-
-unfoldable pub isLeap : ℤ → Bool
-isLeap y = eqb (floorMod y 400) 0 || (eqb (floorMod y 4) 0 && not (eqb (floorMod y 100) 0))
-
-unfoldable pub daysIn : ℤ → ℕ
-daysIn y = cond (isLeap y) 366 365
 
 -- the days from the Monday of a day's week to the day. Sunday is weekday 0
 abbrev pub sinceMonday : ℕ → ℕ

@@ -222,6 +222,7 @@ pub enum Refusal {
     WriteZero,
     InputTooLong,
     NoBuffer,
+    OutOfRange,
 }
 
 // A refusal's number in the table.
@@ -235,6 +236,7 @@ pub fn number_of(refusal: Refusal) -> u32
         Refusal::WriteZero => 4,
         Refusal::InputTooLong => 5,
         Refusal::NoBuffer => 6,
+        Refusal::OutOfRange => 7,
     }
 }
 
@@ -253,5 +255,16 @@ pub fn refusal_of(number: usize) -> Refusal
 
 pub enum Answer {
     Done(usize),
+    Refused(Refusal),
+}
+
+// A record from a count, and a count from a record.
+pub enum Dated {
+    Made(Record),
+    Refused(Refusal),
+}
+
+pub enum Counted {
+    Count(i64),
     Refused(Refusal),
 }

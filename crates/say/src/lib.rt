@@ -42,6 +42,7 @@ fn name_to(fd: i32, refusal: Refusal) {
         Refusal::WriteZero => text_to(fd, b"WriteZero"),
         Refusal::InputTooLong => text_to(fd, b"InputTooLong"),
         Refusal::NoBuffer => text_to(fd, b"NoBuffer"),
+        Refusal::OutOfRange => text_to(fd, b"OutOfRange"),
     }
 }
 

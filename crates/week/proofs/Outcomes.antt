@@ -6,7 +6,8 @@ use native.Mathlib.Omega.{arith}
 use borrow.Author.Tests.{le-leb, lt-leb}
 use lib.Dec.{leb}
 use lib.IntN.{ℤ, pos, _+ℤ_, _-ℤ_}
-use Rattle.rules.specs.Week.{daysIn, inLastWeek, currentOrNext, iso8601YearAndWeekNumber}
+use Rattle.rules.specs.Calendar.{daysIn}
+use Rattle.rules.specs.Week.{inLastWeek, currentOrNext, iso8601YearAndWeekNumber}
 use Rattle.rules.proofs.FloorLaws.{leb-same, mag-dec}
 use Rattle.rules.proofs.YearLaws.{days-from}
 use Rattle.rules.proofs.OriginalWeek.{lastWeekday, inLast, in-last-is, answer, current-is, original-before, original-begun}

@@ -14,7 +14,7 @@ use mir.Syntax.{w64}
 use mir.Val.{SFits, toZ, ofZ}
 use mir.ValLaws.{toZ-ofZ}
 use Rattle.rules.specs.Decimal.{floorMod}
-use Rattle.rules.specs.Week.{isLeap}
+use Rattle.rules.specs.Calendar.{isLeap}
 use Rattle.numbers.proofs.Signed.{through}
 
 -- ## Remainders

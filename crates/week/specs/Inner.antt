@@ -4,7 +4,8 @@ use Prim.Native.Nat.{ℕ, _+_, _*_, _^_, _<_, _≤_}
 use lib.IntN.{ℤ, pos, _-ℤ_}
 use lib.Signed.{mag}
 use Rattle.rules.specs.declared.IsoWeek.{IsoWeek}
-use Rattle.rules.specs.Week.{daysIn, YearAndWeek, startOfFirstWeek}
+use Rattle.rules.specs.Calendar.{daysIn}
+use Rattle.rules.specs.Week.{YearAndWeek, startOfFirstWeek}
 
 -- an answer in the original's numbers
 abbrev pub original : IsoWeek → YearAndWeek

@@ -2,7 +2,8 @@
 ghost use mathlib.Core.Path.{_≡_};
 ghost use Prim.Native.Nat.{_≤_};
 ghost use lib.IntN.{pos};
-ghost use Rattle.rules.specs.Week.{weekNumber, isLeap, daysIn, isoWeek, inLastWeek, currentOrNext, iso8601YearAndWeekNumber};
+ghost use Rattle.rules.specs.Calendar.{isLeap, daysIn};
+ghost use Rattle.rules.specs.Week.{weekNumber, isoWeek, inLastWeek, currentOrNext, iso8601YearAndWeekNumber};
 ghost use Rattle.week.specs.Start.{startOf};
 ghost use Rattle.week.specs.Inner.{original, FirstWeek, InYear, FromWeekOne, Restarts};
 use rules::IsoWeek;

@@ -9,7 +9,8 @@ use lib.Signed.{mag}
 use mir.Syntax.{w64}
 use mir.Val.{toZ, ofZ}
 use mir.ValLaws.{toZ-ofZ}
-use Rattle.rules.specs.Week.{daysIn, currentOrNext, iso8601YearAndWeekNumber}
+use Rattle.rules.specs.Calendar.{daysIn}
+use Rattle.rules.specs.Week.{currentOrNext, iso8601YearAndWeekNumber}
 use Rattle.rules.proofs.FloorLaws.{mag-dec}
 use Rattle.rules.proofs.YearLaws.{days-to}
 use Rattle.week.specs.Inner.{FromWeekOne, Restarts}

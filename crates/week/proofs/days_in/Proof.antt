@@ -1,17 +1,17 @@
 -- `days_in` answers by the leap year.
 use mathlib.Core.Path.{_≡_, sym, ap, _∙_}
 use mathlib.Core.Bool.{Bool, cond}
-use Prim.Native.Nat.{ℕ}
+use Prim.Native.Nat.{ℕ, _+_}
 use borrow.Author.Needs.{needs}
 use mir.Syntax.{w64}
 use mir.ValLaws.{toZ-ofZ}
-use Rattle.rules.specs.Week.{isLeap, daysIn}
+use Rattle.rules.specs.Calendar.{isLeap, leapDay, daysIn}
 use Rattle.week.proofs.days_in.Statement.{statement}
 use Rattle.week.proofs.days_in.Tie as tie
 
-days : (c : tie.After-is-leap-year) {b : Bool} → c .is-leap-year .result ≡ b → cond b 366 365 ≡ daysIn (c .before .args .year)
-unfolding daysIn
-days c e = ap (λ (b : Bool). cond {A = ℕ} b 366 365) (sym e ∙ c .is-leap-year .ensures ∙ ap isLeap (toZ-ofZ w64 _ (c .before .fits .year)))
+days : (c : tie.After-is-leap-year) {b : Bool} → c .is-leap-year .result ≡ b → 365 + cond b 1 0 ≡ daysIn (c .before .args .year)
+unfolding daysIn leapDay
+days c e = ap (λ (b : Bool). 365 + cond {A = ℕ} b 1 0) (sym e ∙ c .is-leap-year .ensures ∙ ap isLeap (toZ-ofZ w64 _ (c .before .fits .year)))
 
 returns : tie.Need-returns
 returns c = days (c .before) (c .if1 .taken)

@@ -6,7 +6,7 @@ use native.Mathlib.Omega.{arith}
 use borrow.Author.Needs.{needs}
 use mir.Syntax.{w64}
 use mir.ValLaws.{toZ-ofZ}
-use Rattle.rules.specs.Week.{daysIn}
+use Rattle.rules.specs.Calendar.{daysIn}
 use Rattle.rules.proofs.YearLaws.{days-from, days-to}
 use Rattle.week.proofs.Outcomes.{by-last-monday, on-sunday, from-thursday}
 use Rattle.week.proofs.in_last_week.Statement.{statement}

@@ -1,0 +1,5 @@
+pub mod CountLaws
+pub mod DateLaws
+pub mod DatedLaws
+pub mod LocalLaws
+pub mod MonthLaws
