@@ -1,11 +1,14 @@
 // Prints the stamp that a format gives of one fixed time and the bytes that the format needs, or where the format is refused and why.
+mod arguments;
 mod echoes;
 mod item;
+mod number;
 mod refused;
 mod sample;
 mod show;
 mod usage;
 
+use arguments::Asked;
 use libc::STDERR_FILENO;
 use rules::Refusal;
 
@@ -19,11 +22,19 @@ fn run(word: &[u8]) {
         usage::say_version();
         return;
     }
-    show::show(word);
+    show::show(word, sample::record());
+}
+
+fn run_at(format: &[u8], words: usize) {
+    if let Asked::Time(count, offset) = arguments::read_time(words) {
+        show::show(format, sample::record_at(count, offset));
+    }
 }
 
 fn say_too_many() {
-    say::error(b"stamp takes one format: put quotes around it where it has blanks\n");
+    say::error(
+        b"stamp takes FORMAT, COUNT and OFFSET: put quotes around a format that has blanks\n",
+    );
     say::error(b"stamp --help says more\n");
 }
 
@@ -38,7 +49,7 @@ fn main() {
         usage::say_usage();
         return;
     }
-    if words > 2 {
+    if words > 4 {
         say_too_many();
         return;
     }
@@ -46,6 +57,10 @@ fn main() {
     let count = os::arg(1, &mut word);
     if os::errno() != 0 {
         say_too_long();
+        return;
+    }
+    if words > 2 {
+        run_at(&word[..count], words);
         return;
     }
     run(&word[..count]);

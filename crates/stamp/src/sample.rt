@@ -1,8 +1,8 @@
-// The time that is stamped.
+// The time that is stamped, where none is asked for.
 use rules::Answer;
 use rules::Record;
 
-fn record() -> Record {
+pub fn record() -> Record {
     Record {
         year: 2024,
         month: 12,
@@ -19,6 +19,14 @@ fn record() -> Record {
     }
 }
 
-pub fn stamp(format: &[u8], buffer: &mut [u8]) -> Answer {
-    strftime::format(format, b"CET", record(), buffer)
+// DRAFT: the record of a count and an offset is what the calendar is to give. Until it is there, only these two fields are so.
+pub fn record_at(count: i64, offset: i32) -> Record {
+    let mut record = record();
+    record.to_int = count;
+    record.utc_offset = offset;
+    record
+}
+
+pub fn stamp(format: &[u8], record: Record, buffer: &mut [u8]) -> Answer {
+    strftime::format(format, b"CET", record, buffer)
 }

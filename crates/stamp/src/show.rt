@@ -4,6 +4,7 @@ use crate::refused::explain;
 use crate::sample::stamp;
 use libc::STDERR_FILENO;
 use rules::Answer;
+use rules::Record;
 
 // The bytes that the format needs, for any record.
 fn say_size(format: &[u8]) {
@@ -21,15 +22,15 @@ fn say_size(format: &[u8]) {
     }
 }
 
-pub fn show(format: &[u8]) {
+pub fn show(format: &[u8], record: Record) {
     let mut buffer = io::large_buffer();
-    match stamp(format, &mut buffer) {
+    match stamp(format, record, &mut buffer) {
         Answer::Done(bytes) => {
             say::text(say::front(&buffer, bytes));
             say::text(b"\n");
             say_size(format);
             say_echoes(format);
         }
-        Answer::Refused(refusal) => explain(refusal, format, &mut buffer),
+        Answer::Refused(refusal) => explain(refusal, format, record, &mut buffer),
     }
 }

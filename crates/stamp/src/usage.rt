@@ -1,4 +1,5 @@
 // How the program is used. The table of directives is stamped too, so each stands beside what it gives.
+use crate::sample::record;
 use crate::sample::stamp;
 use crate::show::show;
 use rules::Answer;
@@ -9,18 +10,21 @@ pub fn say_version() {
 
 fn say_line(format: &[u8]) {
     let mut buffer = [0u8; 128];
-    if let Answer::Done(bytes) = stamp(format, &mut buffer) {
+    if let Answer::Done(bytes) = stamp(format, record(), &mut buffer) {
         say::text(say::front(&buffer, bytes));
     }
 }
 
 fn say_use() {
-    say::text(b"usage: stamp FORMAT\n       stamp --help\n       stamp --version\n");
+    say::text(
+        b"usage: stamp FORMAT [COUNT [OFFSET]]\n       stamp --help\n       stamp --version\n",
+    );
     say_line(b"Prints %A %F %T.%N, day %j, zone %Z, %:z, as FORMAT says,\n");
     say::text(b"and the bytes that FORMAT needs for any time. Every word but the two above is a\n");
-    say::text(b"format, also one that begins with two dashes, as --%d.\n\n");
+    say::text(b"format, also one that begins with two dashes, as --%d.\n");
+    say::text(b"COUNT is seconds since 1970, and OFFSET seconds east of UTC.\n\n");
     say::text(b"$ stamp '%A, %-d %B %Y'\n");
-    show(b"%A, %-d %B %Y");
+    show(b"%A, %-d %B %Y", record());
     say::text(b"\n");
 }
 

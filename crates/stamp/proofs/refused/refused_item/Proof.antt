@@ -8,10 +8,10 @@ use Rattle.stamp.proofs.refused.refused_item.Statement.{statement}
 use Rattle.stamp.proofs.refused.refused_item.Tie as tie
 
 abbrev Inv-loop : tie.InvT-loop
-Inv-loop format buffer₀ at₀ buffer at = length buffer ≡ length buffer₀
+Inv-loop format record₀ buffer₀ at₀ buffer at = length buffer ≡ length buffer₀
 
 abbrev μ-loop : tie.MeasureT-loop
-μ-loop format buffer₀ at₀ buffer at = length format - at
+μ-loop format record₀ buffer₀ at₀ buffer at = length format - at
 
 slice-aggregate-stamp : tie.Need-slice-aggregate-stamp Inv-loop μ-loop
 slice-aggregate-stamp c = sym (length-take-le _ _ (c .before .item-at .ensures .within))

@@ -1,0 +1,3 @@
+pub mod NumberLaws
+pub mod ReadBack
+pub mod SignedLaws
