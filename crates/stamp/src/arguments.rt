@@ -3,6 +3,7 @@ ghost use Prim.Native.Nat.{_^_, _<_};
 ghost use Rattle.stamp.specs.Numbers.{SignedWithin};
 use crate::number::Signed;
 use crate::number::read_signed;
+use crate::usage::say_words;
 use libc::STDERR_FILENO;
 
 pub enum Asked {
@@ -30,7 +31,8 @@ fn say_no_number(i: usize, range: &[u8]) {
     say::escaped_to(STDERR_FILENO, &word[..count]);
     say::error(b"` is no number from ");
     say::error(range);
-    say::error(b"\nstamp --help says more\n");
+    say::error(b"\n");
+    say_words();
 }
 
 fn read_offset(words: usize) -> Signed

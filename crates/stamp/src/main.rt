@@ -1,6 +1,8 @@
-// Prints the stamp that a format gives of one fixed time and the bytes that the format needs, or where the format is refused and why.
+// Prints the stamp that a format gives of one fixed time, or of the instant that is asked for, and the bytes that the format needs;
+// or where the format is refused and why.
 mod arguments;
 mod echoes;
+mod instant;
 mod item;
 mod number;
 mod refused;
@@ -22,20 +24,13 @@ fn run(word: &[u8]) {
         usage::say_version();
         return;
     }
-    show::show(word, sample::record());
+    sample::show_sample(word);
 }
 
 fn run_at(format: &[u8], words: usize) {
     if let Asked::Time(count, offset) = arguments::read_time(words) {
-        show::show(format, sample::record_at(count, offset));
+        instant::show_at(format, count, offset);
     }
-}
-
-fn say_too_many() {
-    say::error(
-        b"stamp takes FORMAT, COUNT and OFFSET: put quotes around a format that has blanks\n",
-    );
-    say::error(b"stamp --help says more\n");
 }
 
 fn say_too_long() {
@@ -50,7 +45,7 @@ fn main() {
         return;
     }
     if words > 4 {
-        say_too_many();
+        usage::say_words();
         return;
     }
     let mut word = io::large_buffer();

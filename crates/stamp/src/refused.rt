@@ -4,7 +4,6 @@ ghost use lib.ListN.{length};
 ghost use Rattle.stamp.specs.Items.{PlaceWithin};
 use crate::item::item_at;
 use crate::item::say_item_to;
-use crate::sample::stamp;
 use libc::STDERR_FILENO;
 use rules::Answer;
 use rules::Record;
@@ -17,14 +16,14 @@ enum Place {
 }
 
 // The last item of the shortest front of the format that is refused. A front is made of whole items.
-fn refused_item(format: &[u8], record: Record, buffer: &mut [u8]) -> Place
+fn refused_item(format: &[u8], zone: &[u8], record: Record, buffer: &mut [u8]) -> Place
     ensures { λ r. ⌜ PlaceWithin (length (now (format .entry))) r ⌝ }
 {
     let mut at = 0;
     while at < format.len() {
         let item = item_at(format, at);
         let end = item.end;
-        if let Answer::Refused(_) = stamp(&format[..end], record, buffer) {
+        if let Answer::Refused(_) = strftime::format(&format[..end], zone, record, buffer) {
             return Place::At(at, end);
         }
         at = end;
@@ -48,10 +47,10 @@ fn say_why(refusal: Refusal, format: &[u8])
     }
 }
 
-fn say_place(refusal: Refusal, format: &[u8], record: Record, buffer: &mut [u8])
+fn say_place(refusal: Refusal, format: &[u8], zone: &[u8], record: Record, buffer: &mut [u8])
     requires { ⌜ length (now format) ≤ 4096 ⌝ }
 {
-    let Place::At(start, end) = refused_item(format, record, buffer) else {
+    let Place::At(start, end) = refused_item(format, zone, record, buffer) else {
         say::error(b"no front of the format is refused\n");
         return;
     };
@@ -60,7 +59,7 @@ fn say_place(refusal: Refusal, format: &[u8], record: Record, buffer: &mut [u8])
     say::error(b"\n");
 }
 
-pub fn explain(refusal: Refusal, format: &[u8], record: Record, buffer: &mut [u8]) {
+pub fn explain(refusal: Refusal, format: &[u8], zone: &[u8], record: Record, buffer: &mut [u8]) {
     say::refusal_to(STDERR_FILENO, refusal);
     say::error(b": ");
     if format.len() > 4096 {
@@ -69,5 +68,5 @@ pub fn explain(refusal: Refusal, format: &[u8], record: Record, buffer: &mut [u8
         say::error(b" bytes, and 4096 are the most\n");
         return;
     }
-    say_place(refusal, format, record, buffer);
+    say_place(refusal, format, zone, record, buffer);
 }

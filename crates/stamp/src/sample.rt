@@ -1,8 +1,9 @@
-// The time that is stamped, where none is asked for.
+// The time that is stamped where none is asked for.
+use crate::show::show;
 use rules::Answer;
 use rules::Record;
 
-pub fn record() -> Record {
+fn record() -> Record {
     Record {
         year: 2024,
         month: 12,
@@ -19,14 +20,10 @@ pub fn record() -> Record {
     }
 }
 
-// DRAFT: the record of a count and an offset is what the calendar is to give. Until it is there, only these two fields are so.
-pub fn record_at(count: i64, offset: i32) -> Record {
-    let mut record = record();
-    record.to_int = count;
-    record.utc_offset = offset;
-    record
+pub fn stamp(format: &[u8], buffer: &mut [u8]) -> Answer {
+    strftime::format(format, b"CET", record(), buffer)
 }
 
-pub fn stamp(format: &[u8], record: Record, buffer: &mut [u8]) -> Answer {
-    strftime::format(format, b"CET", record, buffer)
+pub fn show_sample(format: &[u8]) {
+    show(format, b"CET", record());
 }

@@ -1,7 +1,6 @@
 // What is said of a format. Its stamp, its size and its echoes go to standard output, and refusals to standard error.
 use crate::echoes::say_echoes;
 use crate::refused::explain;
-use crate::sample::stamp;
 use libc::STDERR_FILENO;
 use rules::Answer;
 use rules::Record;
@@ -22,15 +21,15 @@ fn say_size(format: &[u8]) {
     }
 }
 
-pub fn show(format: &[u8], record: Record) {
+pub fn show(format: &[u8], zone: &[u8], record: Record) {
     let mut buffer = io::large_buffer();
-    match stamp(format, record, &mut buffer) {
+    match strftime::format(format, zone, record, &mut buffer) {
         Answer::Done(bytes) => {
             say::text(say::front(&buffer, bytes));
             say::text(b"\n");
             say_size(format);
             say_echoes(format);
         }
-        Answer::Refused(refusal) => explain(refusal, format, record, &mut buffer),
+        Answer::Refused(refusal) => explain(refusal, format, zone, record, &mut buffer),
     }
 }

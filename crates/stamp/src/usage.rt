@@ -1,7 +1,7 @@
 // How the program is used. The table of directives is stamped too, so each stands beside what it gives.
-use crate::sample::record;
+use crate::instant::show_at;
+use crate::sample::show_sample;
 use crate::sample::stamp;
-use crate::show::show;
 use rules::Answer;
 
 pub fn say_version() {
@@ -10,7 +10,7 @@ pub fn say_version() {
 
 fn say_line(format: &[u8]) {
     let mut buffer = [0u8; 128];
-    if let Answer::Done(bytes) = stamp(format, record(), &mut buffer) {
+    if let Answer::Done(bytes) = stamp(format, &mut buffer) {
         say::text(say::front(&buffer, bytes));
     }
 }
@@ -22,9 +22,25 @@ fn say_use() {
     say_line(b"Prints %A %F %T.%N, day %j, zone %Z, %:z, as FORMAT says,\n");
     say::text(b"and the bytes that FORMAT needs for any time. Every word but the two above is a\n");
     say::text(b"format, also one that begins with two dashes, as --%d.\n");
-    say::text(b"COUNT is seconds since 1970, and OFFSET seconds east of UTC.\n\n");
+}
+
+fn say_counts() {
+    say::text(
+        b"With COUNT it prints the time COUNT seconds after 1970-01-01 00:00:00 UTC, and with\n",
+    );
+    say::text(
+        b"OFFSET that time OFFSET seconds east of UTC. Both may be below 0. The zone name is UTC\n",
+    );
+    say::text(b"where OFFSET is 0 or not given, and else empty.\n\n");
+}
+
+fn say_examples() {
     say::text(b"$ stamp '%A, %-d %B %Y'\n");
-    show(b"%A, %-d %B %Y", record());
+    show_sample(b"%A, %-d %B %Y");
+    say::text(b"$ stamp '%F %T %Z' 1735574709\n");
+    show_at(b"%F %T %Z", 1735574709, 0);
+    say::text(b"$ stamp '%F %T %:z' 1735574709 -18000\n");
+    show_at(b"%F %T %:z", 1735574709, -18000);
     say::text(b"\n");
 }
 
@@ -61,8 +77,18 @@ fn say_rest() {
 
 pub fn say_usage() {
     say_use();
+    say_counts();
+    say_examples();
     say_dates();
     say_times();
     say_others();
     say_rest();
+}
+
+// Where the words are not a format and two numbers.
+pub fn say_words() {
+    say::error(
+        b"stamp takes FORMAT, COUNT and OFFSET: put quotes around a format that has blanks\n",
+    );
+    say::error(b"stamp --help says more\n");
 }

@@ -23,22 +23,45 @@ loop-holds : tie.Need-loop-holds Inv-loop μ-loop
 loop-holds c = (search needs, opened _ _ _ (c .if1 .left))
 
 returns-2 : tie.Need-returns-2 Inv-loop μ-loop
-returns-2 c = let start = c .before .before .before .before .before in let loop = c .before .before .before .loop in low (start .args .most) (loop .value) (now (start .args .bytes)) (loop .at) (c .before .before .loop-test .taken) (c .if2 .taken) ∙ loop .inv .1
+returns-2 c =
+    let l = c .before .before in
+    let k = l .before .loop in
+    let a = l .before .before .before .args in
+    low (a .most) (k .value) (now (a .bytes)) (k .at) (l .loop-test .taken) (c .if2 .taken) ∙ k .inv .1
 
 returns-3 : tie.Need-returns-3 Inv-loop μ-loop
-returns-3 c = let start = c .before .before .before .before .before .before in let loop = c .before .before .before .before .loop in high (start .args .most) (loop .value) (now (start .args .bytes)) (loop .at) (c .before .before .before .loop-test .taken) (c .if3 .taken) ∙ loop .inv .1
+returns-3 c =
+    let l = c .before .before .before in
+    let k = l .before .loop in
+    let a = l .before .before .before .args in
+    high (a .most) (k .value) (now (a .bytes)) (k .at) (l .loop-test .taken) (c .if3 .taken) ∙ k .inv .1
 
 returns-4 : tie.Need-returns-4 Inv-loop μ-loop
-returns-4 c = let start = c .before .before .before .before .before .before .before in let loop = c .before .before .before .before .before .loop in past (start .args .most) (loop .value) (now (start .args .bytes)) (loop .at) (c .before .before .before .before .loop-test .taken) (c .before .before .if2 .left) (c .before .if3 .left) (omega arith) ∙ loop .inv .1
+returns-4 c =
+    let d = c .before in
+    let l = d .before .before .before in
+    let k = l .before .loop in
+    let a = l .before .before .before .args in
+    past (a .most) (k .value) (now (a .bytes)) (k .at) (l .loop-test .taken) (d .before .if2 .left) (d .if3 .left) (omega arith) ∙ k .inv .1
 
 returns-5 : tie.Need-returns-5 Inv-loop μ-loop
-returns-5 c = let start = c .before .before .before .before .before .before .before .before in let loop = c .before .before .before .before .before .before .loop in past (start .args .most) (loop .value) (now (start .args .bytes)) (loop .at) (c .before .before .before .before .before .loop-test .taken) (c .before .before .before .if2 .left) (c .before .before .if3 .left) (omega arith) ∙ loop .inv .1
+returns-5 c =
+    let d = c .before .before in
+    let l = d .before .before .before in
+    let k = l .before .loop in
+    let a = l .before .before .before .args in
+    past (a .most) (k .value) (now (a .bytes)) (k .at) (l .loop-test .taken) (d .before .if2 .left) (d .if3 .left) (omega arith) ∙ k .inv .1
 
 loop-again : tie.Need-loop-again Inv-loop μ-loop
-loop-again c = let start = c .before .before .before .before .before .before .before .before in let loop = c .before .before .before .before .before .before .loop in (omega arith, digit (start .args .most) (loop .value) (now (start .args .bytes)) (loop .at) (c .before .before .before .before .before .loop-test .taken) (c .before .before .before .if2 .left) (c .before .before .if3 .left) ∙ loop .inv .1)
+loop-again c =
+    let d = c .before .before in
+    let l = d .before .before .before in
+    let k = l .before .loop in
+    let a = l .before .before .before .args in
+    (omega arith, digit (a .most) (k .value) (now (a .bytes)) (k .at) (l .loop-test .taken) (d .before .if2 .left) (d .if3 .left) ∙ k .inv .1)
 
 returns-6 : tie.Need-returns-6 Inv-loop μ-loop
-returns-6 c = let loop = c .before .loop in whole _ (loop .value) _ (loop .at) (c .loop-test .left) (loop .inv .0) ∙ loop .inv .1
+returns-6 c = let k = c .before .loop in whole _ (k .value) _ (k .at) (c .loop-test .left) (k .inv .0) ∙ k .inv .1
 
 pub read-number-spec : {M : Type 1} → statement M
 read-number-spec =

@@ -8,7 +8,7 @@ use Rattle.stamp.proofs.refused.say_place.Statement.{statement}
 use Rattle.stamp.proofs.refused.say_place.Tie as tie
 
 say-item-to-requires : tie.Need-say-item-to-requires
-say-item-to-requires c κs = let found = c .before .before .before .before .before in subst (PlaceWithin (length (now (found .before .before .before .before .args .format)))) (c .before .start .given .1) (found .refused-item .ensures)
+say-item-to-requires c κs = let found = c .before .before .before .before .before in subst (PlaceWithin (length (now (found .before .before .before .before .before .args .format)))) (c .before .start .given .1) (found .refused-item .ensures)
 
 pub say-place-spec : {M : Type 1} → statement M
 say-place-spec =
