@@ -1,17 +1,15 @@
-/* Groatsaddle: format bytes and a flat time record go in, text comes out in a buffer that the caller lends.
+/* Groatsaddle: format bytes and a flat time record go in, text comes out in a buffer that the caller lends. The record
+   can be had from a count of seconds.
 
    Link libgroatsaddle.a (-lgroatsaddle), which `rt staticlib groatsaddle` writes to target/staticlib, for x86-64. It
    calls memcpy and memset, which a C compiler's programs have, and nothing else. docs/DECISIONS.md has its code size.
 
    A first use:
 
-       gs_record record = {0};
        uint8_t line[32];
-       record.year = 2024;
-       record.month = 12;
-       record.day = 30;
-       gs_answer answer = gs_format((const uint8_t *)"%F", 2, NULL, 0, record, line, sizeof line);
-       if (answer.refusal == gs_DONE)
+       gs_dated now = gs_record_from_count(1735574709, 3600, 0, 0);
+       gs_answer answer = gs_format((const uint8_t *)"%F %T", 5, NULL, 0, now.record, line, sizeof line);
+       if (now.refusal == gs_DONE && answer.refusal == gs_DONE)
            printf("%.*s\n", (int)answer.length, (const char *)line);
 
    Nothing is allocated and no state is kept: any number of threads may call at once, as long as nobody changes what is
@@ -42,9 +40,10 @@ extern "C" {
 
 /* What `refusal` of an answer can be. */
 enum {
-    /* The text stands in the buffer. */
+    /* The text stands in the buffer, or what was asked for in the answer. */
     gs_DONE = 0,
-    /* InvalidTime: a directive reads a field that is out of its range, or `%Z` a zone name with a byte above 127. */
+    /* InvalidTime: a directive reads a field that is out of its range, or `%Z` a zone name with a byte above 127; a count
+       comes with too many nanoseconds, or a record has no count. */
     gs_INVALID_TIME = 1,
     /* InvalidFormatString: the format ends inside a directive, as "%" and "%5" do. */
     gs_INVALID_FORMAT_STRING = 2,
@@ -122,6 +121,10 @@ typedef struct {
     uint32_t refusal; /* gs_DONE or gs_INVALID_TIME */
     int64_t count;    /* 0 where refused */
 } gs_counted;
+
+typedef char gs_counter_layout[
+    sizeof(gs_dated) == 48 && offsetof(gs_dated, record) == 8 && sizeof(gs_counted) == 16 &&
+    offsetof(gs_counted, count) == 8 ? 1 : -1];
 
 /* Gives the record of an instant: count is in seconds since 1970-01-01 00:00:00 UTC, and local time is count plus
    utc_offset, by the proleptic Gregorian calendar. Every field is in range, second is at most 59, day_of_week and

@@ -1,6 +1,7 @@
 //! Times the library beside a plain formatter and the original, and measures how deep their stacks go.
 //! Exit status 1: a text differs.
 
+mod counter;
 #[path = "../compare/library.rs"]
 #[allow(dead_code)]
 mod library;
@@ -54,6 +55,8 @@ fn main() -> ExitCode {
     for (name, format) in formats {
         print_times(name, &race(format.as_bytes(), &records));
     }
+    let counts: Vec<i64> = records.iter().map(|record| record.to_int).collect();
+    counter::print_times(&counter::race(&counts, WINDOWS));
     print_stacks(&formats.map(|(_, format)| format), &records);
     ExitCode::SUCCESS
 }
@@ -104,16 +107,23 @@ fn same_texts(format: &[u8], records: &[FlatRecord]) -> Result<(), usize> {
     Ok(())
 }
 
-/// Nanoseconds a stamp.
+/// Nanoseconds a call.
 struct Times {
     best: f64,
     mean: f64,
 }
 
 impl Times {
-    fn window(&mut self, stamps: impl FnOnce()) {
+    fn new() -> Self {
+        Times {
+            best: f64::INFINITY,
+            mean: 0.0,
+        }
+    }
+
+    fn window(&mut self, calls: impl FnOnce()) {
         let start = Instant::now();
-        stamps();
+        calls();
         let time = start.elapsed().as_nanos() as f64 / STAMPS as f64;
         self.best = self.best.min(time);
         self.mean += time / WINDOWS as f64;
@@ -127,10 +137,7 @@ fn race(format: &[u8], records: &[FlatRecord]) -> [Times; 3] {
         .map(|record| record.with_zone(ZONE))
         .collect();
     let mut line = [0; 1024];
-    let mut all = [0; 3].map(|_| Times {
-        best: f64::INFINITY,
-        mean: 0.0,
-    });
+    let mut all = [0; 3].map(|_| Times::new());
     let [ours, plain, theirs] = &mut all;
     for _ in 0..WINDOWS {
         ours.window(|| {

@@ -1,4 +1,4 @@
-"""Cases both ways, beside Python's datetime. Its years 2000 to 2399 stand for all others, by shifts of 400 years."""
+"""Cases both ways, beside Python's datetime. It knows the years 1 to 9999; for any other, a year of 2000 to 2399 stands, shifted by 400 years."""
 import collections
 import datetime
 import itertools
@@ -13,13 +13,15 @@ REFUSED = ' 0' * 12  # no record
 
 def day_of(year, month, day):
     """The number of a date, from 1970-01-01; ValueError where there is none."""
-    shift, y = divmod(year - 2000, 400)
-    return (datetime.date(2000 + y, month, day) - DAY0).days + 146097 * shift
+    shift = 0 if 1 <= year <= 9999 else (year - 2000) // 400
+    return (datetime.date(year - 400 * shift, month, day) - DAY0).days + 146097 * shift
 
 
 def date_of(number):
-    shift, d = divmod(number - day_of(2000, 1, 1), 146097)
-    return datetime.date(2000, 1, 1) + datetime.timedelta(days=d), 400 * shift
+    """The date, and the years to add to it."""
+    known = day_of(1, 1, 1) <= number <= day_of(9999, 12, 31)
+    shift = 0 if known else (number - day_of(2000, 1, 1)) // 146097
+    return DAY0 + datetime.timedelta(days=number - 146097 * shift), 400 * shift
 
 
 def made(count, offset, nanoseconds, is_utc):
@@ -82,7 +84,7 @@ def by_lot(draw, cases):
         bits = draw.choice((0, 4, 6, 7, 8, 16, 30))
         count = draw.randrange(-I64, I64) >> bits
         offset = draw.choice((draw.randrange(-50400, 50401), draw.randrange(-I32, I32)))
-        yield made, (count, offset, draw.randrange(1_000_000_100), draw.randrange(3))
+        yield made, (count, offset, draw.randrange(2**30), draw.randrange(3))
         yield counted, (draw.randrange(-I32, I32) >> draw.choice((0, 10, 19)), draw.randrange(14), draw.randrange(33),
                         draw.randrange(25), draw.randrange(61), draw.randrange(61), draw.randrange(-I32, I32))
     for _ in range(cases // 15):

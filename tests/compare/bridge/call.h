@@ -1,10 +1,12 @@
-/* A call on its way: this, then the bytes of format, zone name and buffer. Back come the answer and the buffer.
-   A call of gs_size has no zone name and no buffer. */
+/* A call on its way: this, then the bytes of format, zone name and buffer. Back come the result and the buffer.
+   Each entry sets what it takes; all else is 0. */
 
 #ifndef CALL_H
 #define CALL_H
 
 #include "groatsaddle.h"
+
+enum { FORMAT, SIZE, RECORD_FROM_COUNT, COUNT_FROM_RECORD };
 
 typedef struct {
     uint64_t format_len;
@@ -13,10 +15,21 @@ typedef struct {
     uint8_t format_is_null;
     uint8_t zone_is_null;
     uint8_t buffer_is_null;
-    uint8_t is_size;
+    uint8_t entry;
     uint64_t longest_zone;
     gs_record record;
+    int64_t count;
+    int32_t utc_offset;
+    uint32_t nanoseconds;
+    uint8_t is_utc;
 } call;
+
+/* What the entry gives; the others are 0. */
+typedef struct {
+    gs_answer answer;
+    gs_dated dated;
+    gs_counted counted;
+} result;
 
 /* More than the longest inputs, so that longer ones can be tried. */
 #define MOST 131072

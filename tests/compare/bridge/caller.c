@@ -62,8 +62,8 @@ static void receive_all(size_t length) {
     }
 }
 
-static gs_answer answer_of(call it, const uint8_t *format, const uint8_t *zone, uint8_t *buffer) {
-    gs_answer answer;
+static result result_of(call it, const uint8_t *format, const uint8_t *zone, uint8_t *buffer) {
+    result back;
     pthread_mutex_lock(&one_at_a_time);
     if (server < 0)
         start();
@@ -72,18 +72,24 @@ static gs_answer answer_of(call it, const uint8_t *format, const uint8_t *zone, 
     end = append(end, zone, it.zone_len);
     end = append(end, buffer, it.buffer_len);
     send_all(end);
-    receive_all(sizeof answer + it.buffer_len);
-    memcpy(&answer, message, sizeof answer);
+    receive_all(sizeof back + it.buffer_len);
+    memcpy(&back, message, sizeof back);
     if (it.buffer_len != 0)
-        memcpy(buffer, message + sizeof answer, it.buffer_len);
+        memcpy(buffer, message + sizeof back, it.buffer_len);
     pthread_mutex_unlock(&one_at_a_time);
-    return answer;
+    return back;
+}
+
+static call a_call(uint8_t entry) {
+    call it;
+    memset(&it, 0, sizeof it);
+    it.entry = entry;
+    return it;
 }
 
 gs_answer gs_format(const uint8_t *format, size_t format_len, const uint8_t *zone, size_t zone_len, gs_record record,
                     uint8_t *buffer, size_t buffer_len) {
-    call it;
-    memset(&it, 0, sizeof it);
+    call it = a_call(FORMAT);
     it.format_len = format_len;
     it.zone_len = zone_len;
     it.buffer_len = buffer_len;
@@ -91,15 +97,28 @@ gs_answer gs_format(const uint8_t *format, size_t format_len, const uint8_t *zon
     it.zone_is_null = zone == NULL;
     it.buffer_is_null = buffer == NULL;
     it.record = record;
-    return answer_of(it, format, zone, buffer);
+    return result_of(it, format, zone, buffer).answer;
 }
 
 gs_answer gs_size(const uint8_t *format, size_t format_len, size_t longest_zone) {
-    call it;
-    memset(&it, 0, sizeof it);
-    it.is_size = 1;
+    call it = a_call(SIZE);
     it.format_len = format_len;
     it.format_is_null = format == NULL;
     it.longest_zone = longest_zone;
-    return answer_of(it, format, NULL, NULL);
+    return result_of(it, format, NULL, NULL).answer;
+}
+
+gs_dated gs_record_from_count(int64_t count, int32_t utc_offset, uint32_t nanoseconds, uint8_t is_utc) {
+    call it = a_call(RECORD_FROM_COUNT);
+    it.count = count;
+    it.utc_offset = utc_offset;
+    it.nanoseconds = nanoseconds;
+    it.is_utc = is_utc;
+    return result_of(it, NULL, NULL, NULL).dated;
+}
+
+gs_counted gs_count_from_record(gs_record record) {
+    call it = a_call(COUNT_FROM_RECORD);
+    it.record = record;
+    return result_of(it, NULL, NULL, NULL).counted;
 }

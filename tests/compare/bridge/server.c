@@ -14,7 +14,7 @@ void *memcpy(void *, const void *, size_t);
 enum { GUARD = 64, PAGE = 4096, REGION = 2 * MOST, NO_ACCESS = 0, READ_WRITE = 3, PRIVATE_ANONYMOUS = 0x22 };
 
 static uint8_t request[3 * MOST];
-static uint8_t reply[sizeof(gs_answer) + MOST];
+static uint8_t reply[sizeof(result) + MOST];
 
 static void stop(const char *why, size_t length) {
     write(2, why, length);
@@ -63,25 +63,33 @@ static uint8_t mark(int at) {
     return (uint8_t)(at * 7 + 129);
 }
 
-static gs_answer answer_of(const call *it, uint8_t *format, uint8_t *zone, uint8_t *buffer) {
+static result result_of(const call *it, uint8_t *format, uint8_t *zone, uint8_t *buffer) {
+    static const result nothing;
+    result back = nothing;
     if (it->format_is_null)
         format = NULL;
-    if (it->is_size)
-        return gs_size(format, it->format_len, it->longest_zone);
-    return gs_format(format, it->format_len, it->zone_is_null ? NULL : zone, it->zone_len, it->record,
-                     it->buffer_is_null ? NULL : buffer, it->buffer_len);
+    if (it->entry == SIZE)
+        back.answer = gs_size(format, it->format_len, it->longest_zone);
+    else if (it->entry == RECORD_FROM_COUNT)
+        back.dated = gs_record_from_count(it->count, it->utc_offset, it->nanoseconds, it->is_utc);
+    else if (it->entry == COUNT_FROM_RECORD)
+        back.counted = gs_count_from_record(it->record);
+    else
+        back.answer = gs_format(format, it->format_len, it->zone_is_null ? NULL : zone, it->zone_len, it->record,
+                                it->buffer_is_null ? NULL : buffer, it->buffer_len);
+    return back;
 }
 
 static void answer_call(const call *it, uint8_t *format, uint8_t *zone, uint8_t *buffer) {
     for (int at = 1; at <= GUARD; at++)
         buffer[-at] = mark(at);
-    gs_answer answer = answer_of(it, format, zone, buffer);
+    result back = result_of(it, format, zone, buffer);
     for (int at = 1; at <= GUARD; at++)
         if (buffer[-at] != mark(at))
             STOP("bridge: the library changed a byte before the buffer");
-    memcpy(reply, &answer, sizeof answer);
-    memcpy(reply + sizeof answer, buffer, it->buffer_len);
-    sent(reply, sizeof answer + it->buffer_len);
+    memcpy(reply, &back, sizeof back);
+    memcpy(reply + sizeof back, buffer, it->buffer_len);
+    sent(reply, sizeof back + it->buffer_len);
 }
 
 int main(void) {
