@@ -108,7 +108,7 @@ pub fn put_decimal(
     ensures { λ r. ⌜ ((limit : ℕ) → Ran limit room (event.write (event.put (filled (fillWith zeros) width v)) ∷ []) (now (out .entry)) at (now (out .exit)) r) ⌝ }
 {
     if zeros && 2 <= width && width <= 4 && 0 <= v {
-        let size = v as u64;
+        let size = numbers::unsigned_abs64(v);
         if size < numbers::power(width) as u64 {
             return text::put_places(out, at, room, width, size);
         }
@@ -137,11 +137,12 @@ pub fn put_year(out: &mut [u8], at: usize, room: usize, year: i32) -> usize
     requires { ⌜ Room (now out) room ⌝ }
     ensures { λ r. ⌜ ((limit : ℕ) → Ran limit room (event.write (event.put (yearText year)) ∷ []) (now (out .entry)) at (now (out .exit)) r) ⌝ }
 {
+    let size = numbers::unsigned_abs(year);
     if year < 0 {
         return put_text(out, at, room, year as i64, 5, true);
     }
-    if year < 10000 {
-        return put_four(out, at, room, year as u32);
+    if size < 10000 {
+        return put_four(out, at, room, size);
     }
     put_text(out, at, room, year as i64, 4, true)
 }
