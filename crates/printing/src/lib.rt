@@ -147,11 +147,13 @@ pub fn put_year(out: &mut [u8], at: usize, room: usize, year: i32) -> usize
     put_text(out, at, room, year as i64, 4, true)
 }
 
-// How many bytes a year takes that is written with zeros to at least so many.
+// How many bytes a year takes that is written with zeros to at least so many. The printer counts, and writes nowhere: a count by comparisons
+// would be computed ahead of every format's loop, whether or not a combination is padded.
 pub fn year_length(year: i32, least: usize) -> usize
     ensures { λ r. ⌜ r ≡ length (filled zeros least year) ⌝ }
 {
-    let length = numbers::text_length(year as i64);
+    let mut none = [0u8; 0];
+    let length = put_text(&mut none, 0, 65536, year as i64, 0, true);
     if length < least { least } else { length }
 }
 
