@@ -108,7 +108,7 @@ pub fn put_decimal(
     ensures { λ r. ⌜ ((limit : ℕ) → Ran limit room (event.write (event.put (filled (fillWith zeros) width v)) ∷ []) (now (out .entry)) at (now (out .exit)) r) ⌝ }
 {
     if zeros && 2 <= width && width <= 4 && 0 <= v {
-        let size = v as u64;
+        let size = numbers::unsigned_abs64(v);
         if size < numbers::power(width) as u64 {
             return text::put_places(out, at, room, width, size);
         }
@@ -137,20 +137,23 @@ pub fn put_year(out: &mut [u8], at: usize, room: usize, year: i32) -> usize
     requires { ⌜ Room (now out) room ⌝ }
     ensures { λ r. ⌜ ((limit : ℕ) → Ran limit room (event.write (event.put (yearText year)) ∷ []) (now (out .entry)) at (now (out .exit)) r) ⌝ }
 {
+    let size = numbers::unsigned_abs(year);
     if year < 0 {
         return put_text(out, at, room, year as i64, 5, true);
     }
-    if year < 10000 {
-        return put_four(out, at, room, year as u32);
+    if size < 10000 {
+        return put_four(out, at, room, size);
     }
     put_text(out, at, room, year as i64, 4, true)
 }
 
-// How many bytes a year takes that is written with zeros to at least so many.
+// How many bytes a year takes that is written with zeros to at least so many. The printer counts, and writes nowhere: a count by comparisons
+// would be computed ahead of every format's loop, whether or not a combination is padded.
 pub fn year_length(year: i32, least: usize) -> usize
     ensures { λ r. ⌜ r ≡ length (filled zeros least year) ⌝ }
 {
-    let length = numbers::text_length(year as i64);
+    let mut none = [0u8; 0];
+    let length = put_text(&mut none, 0, 65536, year as i64, 0, true);
     if length < least { least } else { length }
 }
 
