@@ -240,7 +240,7 @@ fn year_text_length(year: i32) -> usize
     year_length(year, year_width(year as i64))
 }
 
-pub fn combination_length(combination: Combination, year: i32) -> usize
+fn combination_length(combination: Combination, year: i32) -> usize
     ensures { λ r. ⌜ r ≡ combinationLength combination year ⌝ }
 {
     match combination {

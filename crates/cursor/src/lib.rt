@@ -26,19 +26,19 @@ fn parse_front(remaining: &[u8]) -> Parsed
 }
 
 // "A `Cursor` contains a slice of a buffer": the data that remains to be read.
-pub struct Cursor<'a> {
-    pub remaining: &'a [u8],
+struct Cursor<'a> {
+    remaining: &'a [u8],
 }
 
 impl<'a> Cursor<'a> {
-    pub fn new(remaining: &'a [u8]) -> Self
+    fn new(remaining: &'a [u8]) -> Self
         ensures { λ r. ⌜ r .remaining ≡ remaining .entry ⌝ }
     {
         Self { remaining }
     }
 
     // The original's `read_exact`: the cursor behind `n` bytes.
-    pub fn advanced(self, n: usize) -> Self
+    fn advanced(self, n: usize) -> Self
         ensures { λ r. ⌜ now (r .remaining) ≡ drop n (now (self .entry .remaining)) ⌝ }
     {
         Self {
@@ -47,7 +47,7 @@ impl<'a> Cursor<'a> {
     }
 
     // What stands behind a percent sign, the cursor being there.
-    pub fn parsed(self) -> Parsed
+    fn parsed(self) -> Parsed
         ensures { λ r. ⌜ r ≡ parseFrom (InFlags outset) 0 (now (self .entry .remaining)) ⌝ }
     {
         parse_front(self.remaining)

@@ -15,7 +15,7 @@ use Rattle.rules.specs.Decimal.{decimalText}
 use Rattle.rules.specs.Week.{isoWeek}
 use Rattle.rules.specs.Writing.{orIfZero, valueOf}
 use Rattle.rules.proofs.EventLaws.{splitOn}
-use Rattle.rules.proofs.DecimalLaws.{count-le, length-text-pos}
+use Rattle.rules.proofs.DecimalLaws.{count-le, length-decimal-pos}
 use Rattle.rules.proofs.FloorLaws.{mod-below}
 use Rattle.rules.proofs.RecordLaws.{in-range}
 use Rattle.rules.proofs.WeekLaws.{week-number-to, iso-week-to}
@@ -59,7 +59,7 @@ pub record Meets (b : Bounds) (r : Record) : Type 0 where
 
 -- a number below 10 ^ (k + 1) has at most k + 1 digits
 pub few : (k n : ℕ) → n < 10 ^ suc k → length (decimalText (pos n)) ≤ suc k
-few k n h = omega (arith, length-text-pos n, count-le k n h)
+few k n h = omega (arith, length-decimal-pos n, count-le k n h)
 
 -- the most that each number takes; m: what the month takes
 unfoldable pub most : Bounds → ℕ → Number → ℕ

@@ -17,7 +17,7 @@ use Rattle.rules.specs.Decimal.{two, spaces}
 use Rattle.rules.specs.Name.{dayName, monthName, abbreviated, Case, inCase, before12}
 use Rattle.rules.specs.Writing.{dayText, combinationLength, combinationText, combinationFields}
 use Rattle.rules.proofs.EventLaws.{splitOn}
-use Rattle.rules.proofs.DecimalLaws.{length-places, length-filled, count-le, length-text-pos}
+use Rattle.rules.proofs.DecimalLaws.{length-places, length-filled, count-le, length-decimal-pos}
 use Rattle.rules.proofs.RecordLaws.{Within, Each, ranges-of}
 use Rattle.rules.proofs.WidthLaws.{length-cased}
 use Rattle.longest.proofs.NameTables.{month-letters, day-letters}
@@ -29,7 +29,7 @@ length-two : (n : ℕ) → length (two n) ≡ 2
 length-two n = length-places 2 n
 
 length-day : (d : ℕ) → d ≤ 31 → length (dayText d) ≡ 2
-length-day d l = omega (arith, length-filled spaces 2 (pos d), length-text-pos d, count-le 1 d (omega arith))
+length-day d l = omega (arith, length-filled spaces 2 (pos d), length-decimal-pos d, count-le 1 d (omega arith))
 
 three : (c : Case) (name : List ℕ) → 3 ≤ length name → length (inCase c (abbreviated name)) ≡ 3
 three c name h = length-cased c (abbreviated name) ∙ omega (arith, length-take 3 name)

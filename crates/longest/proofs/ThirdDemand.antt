@@ -22,7 +22,7 @@ use Rattle.rules.specs.Offset.{hoursOf, minus, extra, Form, hh, hhmm, hh:mm, hh
 use Rattle.rules.specs.Writing.{valueOf, defaultWidth}
 use Rattle.rules.specs.Format.{items, fault, valid}
 use Rattle.rules.specs.Size.{NoneServes, Kept, Sizing, Typed, AnyStamp, GoodStamp}
-use Rattle.rules.proofs.DecimalLaws.{count-le, length-text-pos, length-text-neg}
+use Rattle.rules.proofs.DecimalLaws.{count-le, length-decimal-pos, length-decimal-neg}
 use Rattle.rules.proofs.OneAnswer.{one-answer}
 use Rattle.rules.proofs.WeekLaws.{iso-year-near}
 use Rattle.rules.proofs.WidthLaws.{year-narrow, extra-small}
@@ -40,8 +40,8 @@ bounds = record { year = 11; century = 9; iso = 11; sign = 5; to-int = 20; hours
 
 -- a number above −10 ^ (k + 1) and below 10 ^ (k + 1) takes at most a sign and k + 1 digits
 signed-few : (k : ℕ) (z : ℤ) → mag z + 1 < 10 ^ suc k → length (decimalText z) ≤ suc (suc k)
-signed-few k (pos n) h = omega (arith, length-text-pos n, count-le k n (omega arith))
-signed-few k (negsuc n) h = omega (arith, length-text-neg n, count-le k (n + 1) h)
+signed-few k (pos n) h = omega (arith, length-decimal-pos n, count-le k n (omega arith))
+signed-few k (negsuc n) h = omega (arith, length-decimal-neg n, count-le k (n + 1) h)
 
 mag-century : (z : ℤ) → mag (floorDiv z 100) ≡ mag z / 100
 mag-century (pos n) = refl

@@ -13,7 +13,7 @@ use Rattle.rules.specs.declared.Spec.the-variants.{Number as number}
 use Rattle.rules.specs.Event.{put, pad, write, judged}
 use Rattle.rules.specs.Decimal.{Fill, zeros, fillByte, filled}
 use Rattle.rules.specs.Writing.{widthOr, defaultWidth, valueOf, numberWrites, fieldsOf, leadOf, bodyOf, verdict as verdictBy, specEvents}
-use Rattle.rules.proofs.DecimalLaws.{filled-plain, length-text-from}
+use Rattle.rules.proofs.DecimalLaws.{filled-plain, length-decimal-from}
 use Rattle.text.specs.Ran.{Ran}
 use Rattle.text.proofs.RanLaws.{_then_, same-events, said, pad-none}
 use Rattle.text.proofs.JudgedLaws.{verdict-held, passes, stops}
@@ -52,7 +52,7 @@ module _ (fill : Fill) (width : ℕ) (v : ℤ) where
   -- "Left flag: plain decimal."
   pub plain-decimal : {limit room : ℕ} {l l′ : List ℕ} {n r : ℕ} → Ran limit room (write (put (filled zeros 1 v)) ∷ []) l n l′ r → Ran limit room (map write (numberWrites true fill width v)) l n l′ r
   unfolding numberWrites
-  plain-decimal w = said (filled-plain zeros 1 v (length-text-from v)) w
+  plain-decimal w = said (filled-plain zeros 1 v (length-decimal-from v)) w
 
 -- ## The directive
 

@@ -7,7 +7,7 @@ ghost use Rattle.rules.specs.declared.Fraction as declared;
 ghost use Rattle.rules.specs.declared.Spec.the-variants as spec;
 ghost use Rattle.rules.specs.Record.{longestBuffer};
 ghost use Rattle.rules.specs.Event as event;
-ghost use Rattle.rules.specs.Decimal.{fillByte, filled};
+ghost use Rattle.rules.specs.Decimal.{filled};
 ghost use Rattle.rules.specs.Writing.{numberWrites, fractionDigits, fractionWrites, verdictOf, specEvents};
 ghost use Rattle.text.specs.Ran.{Ran};
 ghost use Rattle.text.specs.Room.{Room};
@@ -32,12 +32,6 @@ fn fills_zeros(padding: Padding, space: bool) -> bool
     }
 }
 
-fn fill_byte(zeros: bool) -> u8
-    ensures { λ r. ⌜ r ≡ fillByte (fillWith zeros) ⌝ }
-{
-    if zeros { b'0' } else { b' ' }
-}
-
 // The excess of a width above 65,535 is padded first, before any sign.
 fn format_num(
     out: &mut [u8],
@@ -54,7 +48,8 @@ fn format_num(
     if width <= 65535 {
         return printing::put_decimal(out, at, room, v, width, zeros);
     }
-    let next = printing::put_padding(out, at, room, limit, fill_byte(zeros), width, 65535);
+    let fill = printing::fill_byte(zeros);
+    let next = printing::put_padding(out, at, room, limit, fill, width, 65535);
     printing::put_decimal(out, next, room, v, 65535, zeros)
 }
 

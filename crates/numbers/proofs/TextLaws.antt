@@ -7,7 +7,7 @@ use lib.IntN.{ℤ, natAbs}
 use lib.ListN.{length, take, drop, replicate, length-append}
 use lib.Seq.{take-at, drop-at, drop-drop}
 use Rattle.rules.specs.Decimal.{digits, digitCount, places, minusSign, decimalText}
-use Rattle.rules.proofs.DecimalLaws.{digits-counted, length-text, length-text-from}
+use Rattle.rules.proofs.DecimalLaws.{digits-counted, length-decimal, length-decimal-from}
 
 same : {m n : ℕ} (a : ℕ) → m ≡ n → replicate m a ≡ replicate n a
 same a e = ap (λ (m : ℕ). replicate m a) e
@@ -21,7 +21,7 @@ module _ (z : ℤ) (sign : List ℕ) (rest : ℕ) (s : minusSign z ≡ sign) (ro
     (m : size ≡ natAbs z) (d : n ≡ digitCount size) (b : start ≡ sign ++ replicate rest 0) (a : at ≡ length sign)
     (w : l ≡ take at start ++ (places n size ++ drop (at + n) start)) where
   count-is : at + n ≡ length (decimalText z)
-  count-is = omega (arith, length-text z, ap length s, ap digitCount m)
+  count-is = omega (arith, length-decimal z, ap length s, ap digitCount m)
 
   front : take at start ≡ minusSign z
   front = ap₂ take a b ∙ take-at sign (replicate rest 0) (length sign) refl ∙ sym s
@@ -47,7 +47,7 @@ module _ (z : ℤ) (bytes rest : List ℕ) (count : ℕ) (e : bytes ≡ decimalT
   text-within = omega (arith, f, ap length e, length-append (decimalText z) rest)
 
   pub text-some : 1 ≤ count
-  text-some = omega (arith, f, length-text-from z)
+  text-some = omega (arith, f, length-decimal-from z)
 
   pub text-front : take count bytes ≡ decimalText z
   text-front = ap (take count) e ∙ take-at (decimalText z) rest count (sym f)

@@ -170,16 +170,3 @@ pub fn decimal_text(v: i64) -> Decimal
         count: sign + n,
     }
 }
-
-// By a loop: a count by comparisons would be computed ahead of every format's loop, whether or not it is used.
-pub fn text_length(v: i64) -> usize
-    ensures { λ r. ⌜ r ≡ length (decimalText v) ⌝ }
-{
-    let mut n = unsigned_abs64(v);
-    let mut count = if v < 0 { 2 } else { 1 };
-    while n >= 10 {
-        n = n / 10;
-        count += 1;
-    }
-    count
-}

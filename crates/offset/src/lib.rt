@@ -8,7 +8,7 @@ ghost use Rattle.offset.specs.Hour.{hourOf, isSignNegative, belowTen, wh
 ghost use Rattle.offset.specs.Parts.{partsFor};
 use numbers::unsigned_abs;
 
-pub struct UtcOffset {
+struct UtcOffset {
     pub hour: f64,
     pub minute: u32,
     pub second: u32,
@@ -37,7 +37,7 @@ fn signed_hour(negative: bool, hours: u32) -> f64
     sign * (hours as f64)
 }
 
-pub fn compute_offset_parts(utc_offset: i32, is_utc: bool, left: bool) -> UtcOffset
+fn compute_offset_parts(utc_offset: i32, is_utc: bool, left: bool) -> UtcOffset
     ensures { λ r. ⌜ r .hour ≡ hourOf (minus left «is_utc» «utc_offset») (hoursOf «utc_offset») ⌝ }
     ensures { λ r. ⌜ r .minute ≡ minutesOf «utc_offset» ⌝ }
     ensures { λ r. ⌜ r .second ≡ secondsOf «utc_offset» ⌝ }

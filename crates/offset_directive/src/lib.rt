@@ -236,7 +236,7 @@ fn form_length(offset: Offset, minute: u8, second: u8) -> usize
     }
 }
 
-pub fn zone_offset(
+fn zone_offset(
     out: &mut [u8],
     at: usize,
     room: usize,

@@ -1,4 +1,4 @@
--- Writes from what other crates say: a pad below its limit, a text between what stood before it and after it, four stores.
+-- Writes from what other crates say: a pad below its limit, the place after a text, four stores.
 use mathlib.Core.Path.{_≡_, refl, sym, _∙_}
 use mathlib.Core.List.{List, [], _∷_}
 use Prim.Native.Nat.{ℕ, _+_, _≤_}
@@ -8,8 +8,9 @@ use Rattle.rules.specs.Event.{put, pad, write, bytesOf, textOf, Count, at, no, 
 use Rattle.text.specs.Overlay.{overlay}
 use Rattle.text.specs.Ran.{Ran}
 use Rattle.text.specs.Room.{Room}
-use Rattle.text.proofs.CountLaws.{pad-counts}
+use Rattle.text.proofs.CountLaws.{put-counted, pad-counts}
 use Rattle.text.proofs.OverlayLaws.{overlay-two, overlay-append}
+use Rattle.text.proofs.PlaceLaws.{same-place}
 use Rattle.text.proofs.RanLaws.{alike}
 
 module _ (a b room : ℕ) (t : List ℕ) where
@@ -28,6 +29,11 @@ pub pad-put : {limit room c count : ℕ} {l l′ : List ℕ} {n r : ℕ} → Ran
 unfolding textOf bytesOf
 pad-put {room = room} {c} {count} {n = n} w h g =
     any-limit (alike (λ k. sym (pad-counts 65536 room c count [] n (omega (arith, g .within, g .small)))) refl w)
+
+-- the place after a text that has room
+pub place-after : {limit room : ℕ} {t l l′ : List ℕ} {n r : ℕ} → Ran limit room (write (put t) ∷ []) l n l′ r → n + length t ≤ room → room ≤ 65536 → r ≡ n + length t
+place-after {limit} {room} {t} {n = n} w h g =
+    same-place (w .count ∙ sym (put-counted limit room t n (n + length t) refl h g))
 
 pub overlay-four : (n a b c d : ℕ) (l : List ℕ) → overlay n (a ∷ b ∷ c ∷ d ∷ []) l ≡ set (set (set (set l n a) (n + 1) b) (n + 2) c) (n + 3) d
 overlay-four n a b c d l =

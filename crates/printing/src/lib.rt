@@ -3,6 +3,7 @@ ghost use mathlib.Core.Path.{_≡_};
 ghost use mathlib.Core.List.{[], _∷_};
 ghost use Prim.Native.Nat.{ℕ, _-_, _≤_, _<_};
 ghost use lib.ListN.{length, replicate};
+ghost use Rattle.rules.specs.Record.{longestBuffer};
 ghost use Rattle.rules.specs.Event as event;
 ghost use Rattle.rules.specs.Decimal.{places, zeros, fillByte, filled};
 ghost use Rattle.rules.specs.Writing.{widthOr, padByte, padTo, yearText};
@@ -28,7 +29,7 @@ pub fn width_or(width: Width, default: usize) -> usize
     }
 }
 
-pub fn pad_byte(padding: Padding) -> u8
+fn pad_byte(padding: Padding) -> u8
     ensures { λ r. ⌜ r ≡ padByte padding ⌝ }
 {
     match padding {
@@ -39,12 +40,12 @@ pub fn pad_byte(padding: Padding) -> u8
 }
 
 // One byte, so many times. A run that has its place in the slice is a pad that no limit refuses.
-pub fn put_run(out: &mut [u8], at: usize, room: usize, byte: u8, count: usize) -> usize
+fn put_run(out: &mut [u8], at: usize, room: usize, byte: u8, count: usize) -> usize
     requires { ⌜ Room (now out) room ⌝ }
     ensures { λ r. ⌜ ((limit : ℕ) → Ran limit room (event.write (event.put (replicate count byte)) ∷ []) (now (out .entry)) at (now (out .exit)) r) ⌝ }
 {
     if text::fits(at, count, out.len()) {
-        return text::pad(out, at, room, 65536, byte, count);
+        return text::pad(out, at, room, rules::LONGEST_BUFFER, byte, count);
     }
     text::run_short(out, at, room, byte, count)
 }
@@ -108,7 +109,7 @@ pub fn put_decimal(
     ensures { λ r. ⌜ ((limit : ℕ) → Ran limit room (event.write (event.put (filled (fillWith zeros) width v)) ∷ []) (now (out .entry)) at (now (out .exit)) r) ⌝ }
 {
     if zeros && 2 <= width && width <= 4 && 0 <= v {
-        let size = v as u64;
+        let size = numbers::unsigned_abs64(v);
         if size < numbers::power(width) as u64 {
             return text::put_places(out, at, room, width, size);
         }
@@ -137,20 +138,23 @@ pub fn put_year(out: &mut [u8], at: usize, room: usize, year: i32) -> usize
     requires { ⌜ Room (now out) room ⌝ }
     ensures { λ r. ⌜ ((limit : ℕ) → Ran limit room (event.write (event.put (yearText year)) ∷ []) (now (out .entry)) at (now (out .exit)) r) ⌝ }
 {
+    let size = numbers::unsigned_abs(year);
     if year < 0 {
         return put_text(out, at, room, year as i64, 5, true);
     }
-    if year < 10000 {
-        return put_four(out, at, room, year as u32);
+    if size < 10000 {
+        return put_four(out, at, room, size);
     }
     put_text(out, at, room, year as i64, 4, true)
 }
 
-// How many bytes a year takes that is written with zeros to at least so many.
+// How many bytes a year takes that is written with zeros to at least so many. The printer counts, and writes nowhere: a count by comparisons
+// would be computed ahead of every format's loop, whether or not a combination is padded.
 pub fn year_length(year: i32, least: usize) -> usize
     ensures { λ r. ⌜ r ≡ length (filled zeros least year) ⌝ }
 {
-    let length = numbers::text_length(year as i64);
+    let mut none = [0u8; 0];
+    let length = put_text(&mut none, 0, rules::LONGEST_BUFFER, year as i64, 0, true);
     if length < least { least } else { length }
 }
 
@@ -164,7 +168,7 @@ pub fn put_padding(
     width: usize,
     length: usize,
 ) -> usize
-    requires { ⌜ Room (now out) room × (65536 ≤ limit) ⌝ }
+    requires { ⌜ Room (now out) room × (longestBuffer ≤ limit) ⌝ }
     ensures { λ r. ⌜ Ran limit room (event.write (event.pad byte (width - length)) ∷ []) (now (out .entry)) at (now (out .exit)) r ⌝ }
 {
     text::pad(out, at, room, limit, byte, saturating_sub(width, length))
@@ -178,7 +182,7 @@ pub fn write_padding(
     piece: Piece,
     length: usize,
 ) -> usize
-    requires { ⌜ Room (now out) room × (65536 ≤ limit) ⌝ }
+    requires { ⌜ Room (now out) room × (longestBuffer ≤ limit) ⌝ }
     ensures { λ r. ⌜ Ran limit room (event.write (padTo piece length) ∷ []) (now (out .entry)) at (now (out .exit)) r ⌝ }
 {
     let width = piece.width;

@@ -158,29 +158,29 @@ two-is n h p q = ap₂ (λ (x y : ℕ). x ∷ y ∷ []) p q ∙ sym (two-digits 
 
 -- ## The text with its sign
 
-pub length-text : (z : ℤ) → length (decimalText z) ≡ length (minusSign z) + digitCount (natAbs z)
+pub length-decimal : (z : ℤ) → length (decimalText z) ≡ length (minusSign z) + digitCount (natAbs z)
 unfolding decimalText
-length-text z = length-append (minusSign z) (digits (natAbs z))
+length-decimal z = length-append (minusSign z) (digits (natAbs z))
 
-pub length-text-pos : (n : ℕ) → length (decimalText (pos n)) ≡ digitCount n
+pub length-decimal-pos : (n : ℕ) → length (decimalText (pos n)) ≡ digitCount n
 unfolding decimalText
-length-text-pos n = refl
+length-decimal-pos n = refl
 
-pub length-text-neg : (n : ℕ) → length (decimalText (negsuc n)) ≡ digitCount (n + 1) + 1
+pub length-decimal-neg : (n : ℕ) → length (decimalText (negsuc n)) ≡ digitCount (n + 1) + 1
 unfolding decimalText
-length-text-neg n =
+length-decimal-neg n =
     let e : suc n ≡ n + 1 = omega arith in
     let f : digitCount (suc n) ≡ digitCount (n + 1) = ap digitCount e in
     omega arith
 
-pub length-text-from : (z : ℤ) → 1 ≤ length (decimalText z)
-length-text-from (pos n) = omega (arith, length-text-pos n, count-pos n)
-length-text-from (negsuc n) = omega (arith, length-text-neg n)
+pub length-decimal-from : (z : ℤ) → 1 ≤ length (decimalText z)
+length-decimal-from (pos n) = omega (arith, length-decimal-pos n, count-pos n)
+length-decimal-from (negsuc n) = omega (arith, length-decimal-neg n)
 
 -- mag z is n of n and of −(n + 1): the least 64-bit number is among these
 pub length-text-to : (z : ℤ) → mag z < 2 ^ 63 → length (decimalText z) ≤ 20
-length-text-to (pos n) h = omega (arith, length-text-pos n, count-le 18 n (omega arith))
-length-text-to (negsuc n) h = omega (arith, length-text-neg n, count-le 18 (n + 1) (omega arith))
+length-text-to (pos n) h = omega (arith, length-decimal-pos n, count-le 18 n (omega arith))
+length-text-to (negsuc n) h = omega (arith, length-decimal-neg n, count-le 18 (n + 1) (omega arith))
 
 -- ## Filled to a width
 

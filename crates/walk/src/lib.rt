@@ -27,9 +27,9 @@ use text::put_two;
 use two::two_at;
 
 // Where an item ends: the place in the text, and the position in the format.
-pub struct Step {
-    pub at: usize,
-    pub next: usize,
+struct Step {
+    at: usize,
+    next: usize,
 }
 
 // What starts at the percent sign at `i`: a directive, an echo, or the format's end inside a directive.
@@ -76,7 +76,7 @@ fn letter_at(format: &[u8], i: usize) -> Entry
 }
 
 // The same. A letter right after the percent sign is a directive with no flag and no width: it needs no parser.
-pub fn item(
+fn item(
     format: &[u8],
     i: usize,
     zone: &[u8],

@@ -9,5 +9,4 @@ unfolding flatten
 returns c = rw (← c .before .before .two-digits .ensures, ← c .before .two-digits2 .ensures, ← c .two-digits3 .ensures)
 
 pub clock-text-spec : {M : Type 1} → statement M
-clock-text-spec =
-    tie.close (tie.spec (λ c κs. search needs) (λ c κs. search needs) (λ c κs. search needs) returns)
+clock-text-spec = tie.close (tie.spec (λ c κs. search needs) (λ c κs. search needs) (λ c κs. search needs) returns)

@@ -9,8 +9,11 @@ answer-from-requires c κs = same-small (c .before .before .format .ensures .0) 
 
 returns : tie.Need-returns
 returns c =
-    let a = c .before .before .before .before .before .before .before .before .before .args in
-    answered (a .format .now) (a .zone .now) (a .buffer .now) (c .before .before .before .before .before .record-from .ensures) _ (c .answer-from .ensures) (c .before .before .before .format .ensures .0) (c .before .before .before .format .ensures .1)
+    let after-format = c .before .before .before in
+    let after-record-from = after-format .before .before in
+    let start = after-record-from .before .before .before .before in
+    let a = start .args in
+    answered (a .format .now) (a .zone .now) (a .buffer .now) (after-record-from .record-from .ensures) _ (c .answer-from .ensures) (after-format .format .ensures .0) (after-format .format .ensures .1)
 
 pub gs-format-spec : {M : Type 1} → statement M
 gs-format-spec =

@@ -16,8 +16,8 @@ returns c =
 returns-2 : tie.Need-returns-2
 returns-2 c =
     let after-put-padding = c .before .before .before .before .before .before in
-    let after-fill-byte = after-put-padding .before in
-    let after-if1 = after-fill-byte .before .before in
+    let after-fill-byte = after-put-padding .before .before in
+    let after-if1 = after-fill-byte .before in
     let start = after-if1 .before .before in
     let a = start .args in
     wide (fillWith (a .zeros)) (a .width) (a .v) (after-if1 .if1 .left) (after-fill-byte .fill-byte .ensures) (after-put-padding .put-padding .ensures) (as-read (fillWith (a .zeros)) 65535 (a .v) (start .fits .v) (c .before .before .put-decimal2 .ensures _))

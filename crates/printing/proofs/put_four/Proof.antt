@@ -40,10 +40,13 @@ add-result c = omega (arith, four-fit (c .before .before .before .before))
 
 returns : tie.Need-returns
 returns c =
-    let p = c .before .before .before .before .before .before .before .pre in
+    let after-tens = c .before .before .before in
+    let start = after-tens .before in
+    let start-2 = start .before .before .before in
+    let p = start-2 .pre in
     λ limit.
-    said (cc (four-places (c .before .before .before .before .before .before .before .args .v) (p .1), c .before .before .before .tens .ensures, c .before .before .ones .ensures, c .before .tens2 .ensures, c .ones2 .ensures))
-    (placed (sym (overlay-four _ _ _ _ _ _)) refl (four-fit (c .before .before .before .before)) (p .0))
+    said (cc (four-places (start-2 .args .v) (p .1), after-tens .tens .ensures, c .before .before .ones .ensures, c .before .tens2 .ensures, c .ones2 .ensures))
+    (placed (sym (overlay-four _ _ _ _ _ _)) refl (four-fit (start)) (p .0))
 
 returns-2 : tie.Need-returns-2
 returns-2 c = c .before .before .places-short .ensures

@@ -72,5 +72,5 @@ returns-6 c =
 pub format-spec : {M : Type 1} → statement M
 format-spec =
     tie.close (tie.spec returns returns-2 returns-3 (λ c κs. search needs) (λ c. search needs) slice-aggregate-run
-    run-requires (λ c κs. search needs) refusal-at-requires returns-4 (λ c κs. search needs) (λ c. search needs) returns-5
-    slice-aggregate-copy-front copy-front-requires (λ c. search needs) returns-6)
+    run-requires (λ c κs. search needs) refusal-at-requires returns-4 (λ c κs. search needs) (λ c. search needs)
+    returns-5 slice-aggregate-copy-front copy-front-requires (λ c. search needs) returns-6)
