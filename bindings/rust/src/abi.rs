@@ -1,5 +1,7 @@
 //! include/groatsaddle.h in Rust.
 
+use crate::Time;
+
 #[repr(C)]
 #[derive(Clone, Copy)]
 pub(crate) struct Record {
@@ -17,11 +19,44 @@ pub(crate) struct Record {
     pub utc_offset: i32,
 }
 
+impl Record {
+    pub(crate) fn of(time: &impl Time) -> Self {
+        Record {
+            year: time.year(),
+            month: time.month(),
+            day: time.day(),
+            hour: time.hour(),
+            minute: time.minute(),
+            second: time.second(),
+            nanoseconds: time.nanoseconds(),
+            day_of_week: time.day_of_week(),
+            day_of_year: time.day_of_year(),
+            to_int: time.to_int(),
+            is_utc: u8::from(time.is_utc()),
+            utc_offset: time.utc_offset(),
+        }
+    }
+}
+
 #[repr(C)]
 #[derive(Clone, Copy)]
 pub(crate) struct Answer {
     pub refusal: u32,
     pub length: u32,
+}
+
+#[repr(C)]
+#[derive(Clone, Copy)]
+pub(crate) struct Dated {
+    pub refusal: u32,
+    pub record: Record,
+}
+
+#[repr(C)]
+#[derive(Clone, Copy)]
+pub(crate) struct Counted {
+    pub refusal: u32,
+    pub count: i64,
 }
 
 extern "C" {
@@ -36,4 +71,13 @@ extern "C" {
     ) -> Answer;
 
     pub(crate) fn gs_size(format: *const u8, format_len: usize, longest_zone: usize) -> Answer;
+
+    pub(crate) fn gs_record_from_count(
+        count: i64,
+        utc_offset: i32,
+        nanoseconds: u32,
+        is_utc: u8,
+    ) -> Dated;
+
+    pub(crate) fn gs_count_from_record(record: Record) -> Counted;
 }

@@ -17,7 +17,7 @@ pub fn strftime<'a>(
     buf: &'a mut [u8],
 ) -> Result<&'a mut [u8], Error> {
     let zone = time.time_zone().as_bytes();
-    let record = record(time);
+    let record = Record::of(time);
     // SAFETY: each pointer has the length of its slice beside it, and `buf` is borrowed alone.
     let answer = unsafe {
         gs_format(
@@ -33,22 +33,5 @@ pub fn strftime<'a>(
     match answer.refusal {
         0 => Ok(&mut buf[..answer.length as usize]),
         refusal => Err(Error::numbered(refusal)),
-    }
-}
-
-fn record(time: &impl Time) -> Record {
-    Record {
-        year: time.year(),
-        month: time.month(),
-        day: time.day(),
-        hour: time.hour(),
-        minute: time.minute(),
-        second: time.second(),
-        nanoseconds: time.nanoseconds(),
-        day_of_week: time.day_of_week(),
-        day_of_year: time.day_of_year(),
-        to_int: time.to_int(),
-        is_utc: u8::from(time.is_utc()),
-        utc_offset: time.utc_offset(),
     }
 }

@@ -1,10 +1,11 @@
 use core::fmt;
 
-/// Why there is no text. The original's names, and two that are added.
+/// Why there is no text, no record or no count. The original's names, and three that are added.
 #[derive(Debug, Clone, Copy, PartialEq, Eq)]
 #[non_exhaustive]
 pub enum Error {
-    /// A directive reads a field that is out of its range, or a zone name that is not ASCII.
+    /// A directive reads a field that is out of its range, or a zone name that is not ASCII; a count
+    /// comes with too many nanoseconds, or a record has no count.
     InvalidTime,
     /// The format ends inside a directive.
     InvalidFormatString,
@@ -17,6 +18,9 @@ pub enum Error {
     /// No buffer that the library takes is long enough for every record. Not the original's; only
     /// sizing gives it.
     NoBuffer,
+    /// Local time or its year is beyond what a record holds. Not the original's; only a record from a
+    /// count gives it.
+    OutOfRange,
 }
 
 impl Error {
@@ -28,6 +32,7 @@ impl Error {
             4 => Error::WriteZero,
             5 => Error::InputTooLong,
             6 => Error::NoBuffer,
+            7 => Error::OutOfRange,
             other => unreachable!("the library has no refusal {other}"),
         }
     }
@@ -42,6 +47,7 @@ impl fmt::Display for Error {
             Error::WriteZero => "failed to write the whole buffer",
             Error::InputTooLong => "input too long",
             Error::NoBuffer => "no buffer is long enough",
+            Error::OutOfRange => "out of range",
         })
     }
 }

@@ -30,6 +30,8 @@
 //! # Ok::<(), groatsaddle::Error>(())
 //! ```
 //!
+//! A [`Record`] is such a time too, and is made from a count of seconds.
+//!
 //! Text and errors are the original's, but for these: an error changes no byte of the buffer, every
 //! method of [`Time`] is called once whatever the format reads, and longer inputs than
 //! [`LONGEST_FORMAT`], [`LONGEST_ZONE`] and [`LONGEST_BUFFER`] are [`Error::InputTooLong`]. The errors
@@ -40,10 +42,12 @@
 mod abi;
 pub mod buffered;
 mod error;
+mod record;
 mod size;
 mod time;
 
 pub use error::Error;
+pub use record::Record;
 pub use size::size;
 pub use time::Time;
 
