@@ -83,15 +83,12 @@ fn moment_of(local: i64) -> Moment
     let days = local / 86400;
     let rest = local % 86400;
     if rest < 0 {
-        Moment {
-            day: days - 1,
-            second: (rest + 86400) as u64,
-        }
+        let day = days - 1;
+        let second = (rest + 86400) as u64;
+        Moment { day, second }
     } else {
-        Moment {
-            day: days,
-            second: rest as u64,
-        }
+        let second = rest as u64;
+        Moment { day: days, second }
     }
 }
 

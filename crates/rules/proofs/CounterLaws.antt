@@ -254,6 +254,14 @@ day-near y m d h x =
     (omega (arith, near z, year-near h (v .1), month-in (leapDay (pos (z + 1))) m f (x .month-from) (x .month-to)))
     (omega (arith, near z, year-near h (v .1)))
 
+-- so a sum beyond an i64 is of a year beyond an i32
+pub sum-year : (local y : ℤ) (m d : ℕ) → (InI64 local → ⊥) → DateOf (floorDiv local 86400) y m d → InI32 y → ⊥
+sum-year local y m d out w h = out (fits local (rw (w .number) at (day-near y m d h (w .exists))))
+  where
+    fits : (z : ℤ) → mag (floorDiv z 86400) < 1000000000000 → InI64 z
+    fits (pos a) h = omega arith
+    fits (negsuc a) h = omega arith
+
 -- a count that is answered is one of an i64
 pub count-fits : (r : Record) → Typed r → Countable r → InI64 (countOf r)
 unfolding countOf

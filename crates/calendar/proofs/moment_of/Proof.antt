@@ -21,20 +21,20 @@ div-days c = divides w64 86400 day (c .fits .local)
 rem-rest : tie.Need-rem-rest
 rem-rest c = divides w64 86400 day (c .fits .local)
 
-sub-t6 : tie.Need-sub-t6
-sub-t6 c = less-asks w64 86400 day (c .before .fits .local) (c .if1 .taken)
+sub-day : tie.Need-sub-day
+sub-day c = less-asks w64 86400 day (c .before .fits .local) (c .if1 .taken)
 
-add-t7 : tie.Need-add-t7
-add-t7 c = more-asks w64 86400 day (c .before .fits .local) (c .if1 .taken) (omega arith)
+add-second : tie.Need-add-second
+add-second c = more-asks w64 86400 day (c .before .fits .local) (c .if1 .taken) (omega arith)
 
 small : (z : ℤ) → Fits w64 (floorMod z 86400)
 small z = record { fits = omega (arith, mod-below z 86400 day) }
 
-cast-t8 : tie.Need-cast-t8
-cast-t8 c = cast-fits w64 (more-read w64 86400 day (c .before .fits .local) (c .if1 .taken) (omega arith)) (small (c .before .args .local))
+cast-second : tie.Need-cast-second
+cast-second c = cast-fits w64 (more-read w64 86400 day (c .before .fits .local) (c .if1 .taken) (omega arith)) (small (c .before .args .local))
 
-cast-t9 : tie.Need-cast-t9
-cast-t9 c = cast-fits w64 (rem-whole w64 86400 day (c .before .fits .local) (c .if1 .left)) (small (c .before .args .local))
+cast-second-2 : tie.Need-cast-second-2
+cast-second-2 c = cast-fits w64 (rem-whole w64 86400 day (c .before .fits .local) (c .if1 .left)) (small (c .before .args .local))
 
 returns : tie.Need-returns
 returns c =
@@ -49,4 +49,4 @@ returns-2 c =
     (quot-whole w64 86400 day f t, ap natAbs (rem-whole w64 86400 day f t))
 
 pub moment-of-spec : {M : Type 1} → statement M
-moment-of-spec = tie.close (tie.spec div-days rem-rest sub-t6 add-t7 cast-t8 cast-t9 returns returns-2)
+moment-of-spec = tie.close (tie.spec div-days rem-rest sub-day add-second cast-second cast-second-2 returns returns-2)
