@@ -2,7 +2,8 @@
    can be had from a count of seconds.
 
    Link libgroatsaddle.a (-lgroatsaddle), which `rt staticlib groatsaddle` writes to target/staticlib, for x86-64. It
-   calls memcpy and memset, which a C compiler's programs have, and nothing else. docs/DECISIONS.md has its code size.
+   calls memcpy and memset, which a C compiler's programs have, and nothing else. gs_format takes some 24 KB of code and
+   1.3 KB of constants.
 
    A first use:
 
@@ -14,7 +15,7 @@
 
    Nothing is allocated and no state is kept: any number of threads may call at once, as long as nobody changes what is
    lent while the call runs. So may an interrupt, if the registers of the float unit are saved for it: the offset's hour
-   is a floating point number. The deepest stack that was seen is 1,032 bytes, of gs_format; that is what was seen by
+   is a floating point number. The deepest stack that was seen is 1,136 bytes, of gs_format; that is what was seen by
    running it, not a bound that is proved. */
 
 #ifndef GROATSADDLE_H
