@@ -71,7 +71,7 @@ typedef struct {
     uint8_t second;       /* 0 to 60 */
     uint32_t nanoseconds; /* 0 to 999,999,999 */
     uint8_t day_of_week;  /* Sunday 0, to 6 */
-    uint16_t day_of_year; /* 1 to 366 */
+    uint16_t day_of_year; /* 1 to 366; 366 only in a leap year */
     int64_t to_int;       /* seconds since 1970-01-01 00:00:00 UTC, printed by %s */
     uint8_t is_utc;       /* 0: no; any other value: yes. A byte, so that no value of it is wrong. */
     int32_t utc_offset;   /* seconds east of UTC */

@@ -132,7 +132,7 @@ impl FlatRecord {
         in_range(self.day_of_week, 0, 6)
     }
     fn day_of_year(&self) -> Result<u16, u8> {
-        in_range(self.day_of_year, 1, 366)
+        in_range(self.day_of_year, 1, days_in(self.year.into()) as u16)
     }
     fn day_name(&self) -> Result<&'static [u8], u8> {
         Ok(DAYS[usize::from(self.day_of_week()?)].as_bytes())

@@ -282,6 +282,26 @@ static void bad_fields(void) {
     BAD(day_of_year, 367, "jUWVGg", "%Y%c%N%A%u%D%F%v%r%Z%z%s%%");
 }
 
+/* Only leap years have a day 366. */
+static void day_366(void) {
+    static const int32_t common[] = {INT32_MAX, 2023, 2100, 1900, -1, -100}, leap[] = {INT32_MIN, 2024, 2000, 0, -4, -400};
+    gs_record record = sample();
+    record.day_of_year = 366;
+    for (size_t at = 0; at < sizeof common / sizeof common[0]; at++) {
+        record.year = common[at];
+        reads(__LINE__, record, "jUWVGg", "%Y%c%N%A%u%D%F%v%r%Z%z%s%%");
+        REFUSED("%G %V", no_zone, record, 200, gs_INVALID_TIME);
+        record.year = leap[at];
+        WRITES("%j", no_zone, record, "366");
+    }
+    record.year = 2024;
+    record.day_of_week = 1;
+    WRITES("%j %U %W %V %G %g", no_zone, record, "366 53 53 01 2025 25");
+    record.year = 2023;
+    record.day_of_year = 365;
+    WRITES("%j %U %W %V %G %g", no_zone, record, "365 52 53 01 2024 24");
+}
+
 static void zone_bytes(void) {
     gs_record record = sample();
     for (int value = 0; value < 256; value++) {
@@ -337,6 +357,7 @@ int main(void) {
     null_with_0();
     longest_inputs();
     bad_fields();
+    day_366();
     zone_bytes();
     no_format();
     zero_bytes();

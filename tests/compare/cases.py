@@ -244,7 +244,7 @@ def offsets():
         case("%_12::z %_12:::z %012z %-12z %-_12:::z %012::z", is_utc=1, utc_offset=offset)
 
 
-# The turn of the year on each weekday. Day 366 of a common year stands here too.
+# The turn of the year on each weekday. Day 366 of a common year stands here too, which has no text.
 def weeks():
     form = "%G %V %g %U %W %j"
     for weekday in range(7):
@@ -256,6 +256,20 @@ def weeks():
                 case(form, year=year, day_of_week=weekday, day_of_year=day)
         for day in [7, 8, 180]:
             case("%U %W %-U %_W %_5V", day_of_week=weekday, day_of_year=day)
+
+
+# Day 366 in common years and in leap years, centuries of both sorts among them.
+def days_366():
+    readers = READERS["day_of_year"]
+    others = ".".join(f"%{d}" for d in DIRECTIVES if d not in readers)
+    for year in [I32[0], -400, -100, -4, -1, 0, 1900, 2000, 2023, 2024, 2100, I32[1]]:
+        for letter in readers:
+            case(f"%{letter}", year=year, day_of_year=366)
+        case(others, year=year, day_of_year=366)
+    for room in [0, 3, 4, 8]:
+        case("day %j", room=room, year=2023, day_of_year=366)
+        case("%j%", room=room, year=2023, day_of_year=366)
+        case("%20V", room=room, year=2023, day_of_year=366)
 
 
 # Directives that are written as they stand in the format, and modifiers that are skipped.
@@ -457,6 +471,7 @@ def main():
     counts()
     offsets()
     weeks()
+    days_366()
     echoes()
     cuts()
     literals()

@@ -1,13 +1,18 @@
-//! Compares the library with the original over systematic cases, and over cases drawn by lot.
+//! Compares the library with the judge over systematic cases, and over cases drawn by lot, and
+//! wherever no deviation is touched with the original as it stands.
 //! The same seed gives the same cases. Exit status 1: some differ.
 
+#[macro_use]
+mod record;
+mod deviated;
+mod deviations;
 mod formats;
 mod judge;
 mod library;
 mod line;
 mod lot;
 mod random;
-mod record;
+mod reading;
 mod records;
 mod sweeps;
 mod systematic;

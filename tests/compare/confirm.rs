@@ -1,7 +1,9 @@
-//! Runs the original beside sentences of paper 01, and prints a line for each statement.
-//! The texts wanted here are written from the paper's words alone.
+//! Runs sentences of paper 01 beside the original as it stands, and those of paper 02 that deviate from it beside the judge.
+//! Prints a line for each statement. The texts wanted here are written from the papers' words alone.
 
+#[macro_use]
 mod record;
+mod deviated;
 mod sweeps;
 
 use record::{strftime, Record};
@@ -24,24 +26,48 @@ const RECORD: Record<'static> = Record {
     zone: "CET",
 };
 
+/// Paper 01.
+const AS_IT_STANDS: [(&str, Sweep); 12] = [
+    ("zeros fill after the minus sign, spaces before it", numbers),
+    ("width above 65,535 is padded before any sign", wide_numbers),
+    ("%z of -36000 is -01000", tenth_hour_west),
+    ("a signed hour below 10 has an extra place", offsets),
+    ("%:::z is %::z, %:z or the hours alone", shortest_offsets),
+    ("minus below zero, or for UTC and the left flag", signs),
+    ("%G %V %g keep the Thursday rule", existing_days),
+    ("day 366 of a common year is the next January 1", day_366),
+    ("but on a Monday it is in week 53 of its year", monday_366),
+    ("default widths of %Y %C %y %G", default_widths),
+    ("%U %W keep the formula", week_numbers),
+    ("stamps at the edges", stamps),
+];
+
+/// Paper 02, request 2.
+const DEVIATED: [(&str, Sweep); 3] = [
+    (
+        "day 366 of a common year is 1 for %j %U %W %V %G %g",
+        common_366,
+    ),
+    ("and for nothing else", others_366),
+    (
+        "%G %V %g keep the Thursday rule, day 366 of a leap year included",
+        existing_days,
+    ),
+];
+
 fn main() -> ExitCode {
-    let statements: [(&str, Sweep); 12] = [
-        ("zeros fill after the minus sign, spaces before it", numbers),
-        ("width above 65,535 is padded before any sign", wide_numbers),
-        ("%z of -36000 is -01000", tenth_hour_west),
-        ("a signed hour below 10 has an extra place", offsets),
-        ("%:::z is %::z, %:z or the hours alone", shortest_offsets),
-        ("minus below zero, or for UTC and the left flag", signs),
-        ("%G %V %g keep the Thursday rule", existing_days),
-        ("day 366 of a common year is the next January 1", day_366),
-        ("but on a Monday it is in week 53 of its year", monday_366),
-        ("default widths of %Y %C %y %G", default_widths),
-        ("%U %W keep the formula", week_numbers),
-        ("stamps at the edges", stamps),
-    ];
+    println!("the original as it stands:");
+    let mut equal = confirm(strftime, &AS_IT_STANDS);
+    print_text_left_by_refusals();
+    println!("the judge:");
+    equal &= confirm(deviated::strftime, &DEVIATED);
+    ExitCode::from(u8::from(!equal))
+}
+
+fn confirm(version: Version, statements: &[(&str, Sweep)]) -> bool {
     let mut equal = true;
     for (statement, sweep) in statements {
-        let mut trial = Trial::new();
+        let mut trial = Trial::new(version);
         sweep(&mut trial);
         println!(
             "{statement}: {} tried, {} differ",
@@ -49,21 +75,24 @@ fn main() -> ExitCode {
         );
         equal &= trial.differ == 0;
     }
-    print_text_left_by_refusals();
-    ExitCode::from(u8::from(!equal))
+    equal
 }
+
+type Version = fn(&Record, &[u8], &mut [u8]) -> Result<usize, u8>;
 
 type Sweep = fn(&mut Trial);
 
 struct Trial {
+    version: Version,
     buffer: Vec<u8>,
     tried: u64,
     differ: u64,
 }
 
 impl Trial {
-    fn new() -> Self {
+    fn new(version: Version) -> Self {
         Trial {
+            version,
             buffer: vec![0; 131_072],
             tried: 0,
             differ: 0,
@@ -77,7 +106,7 @@ impl Trial {
 
     fn answer(&mut self, format: &str, record: &Record, room: usize, want: Result<&str, u8>) {
         let buffer = &mut self.buffer[..room];
-        let got = strftime(record, format.as_bytes(), buffer).map(|length| &buffer[..length]);
+        let got = (self.version)(record, format.as_bytes(), buffer).map(|length| &buffer[..length]);
         let want = want.map(str::as_bytes);
         self.tried += 1;
         if got != want {
@@ -433,6 +462,45 @@ fn day_366(trial: &mut Trial) {
 fn monday_366(trial: &mut Trial) {
     for year in common_years() {
         try_week(trial, year, 1, 366, (year.into(), 53));
+    }
+}
+
+fn common_366(trial: &mut Trial) {
+    for year in common_years() {
+        for weekday in 0..7 {
+            let record = on_day_366(year, weekday);
+            for format in ["%j", "%U", "%W", "%V", "%G", "%g", "ab%-5jcd"] {
+                trial.answer(format, &record, 64, Err(1));
+            }
+        }
+    }
+}
+
+/// The other directives print what they print on another day.
+fn others_366(trial: &mut Trial) {
+    const OTHERS: &str =
+        "%A%B%C%D%F%H%I%L%M%N%P%R%S%T%X%Y%Z%a%b%c%d%e%h%k%l%m%n%p%r%s%t%u%v%w%x%y%z%%";
+    for year in common_years() {
+        for weekday in 0..7 {
+            let record = on_day_366(year, weekday);
+            let first = Record {
+                day_of_year: 1,
+                ..record
+            };
+            let mut buffer = [0; 512];
+            let length = strftime(&first, OTHERS.as_bytes(), &mut buffer).expect("a text");
+            let want = String::from_utf8_lossy(&buffer[..length]).into_owned();
+            trial.text(OTHERS, &record, &want);
+        }
+    }
+}
+
+fn on_day_366(year: i32, day_of_week: u8) -> Record<'static> {
+    Record {
+        year,
+        day_of_week,
+        day_of_year: 366,
+        ..RECORD
     }
 }
 

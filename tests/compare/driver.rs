@@ -1,4 +1,4 @@
-//! Reads cases from standard input and writes each with the original's answer appended.
+//! Reads cases from standard input and writes each with the judge's answer appended.
 //! README.md has the form of a line.
 
 mod line;

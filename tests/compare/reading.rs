@@ -1,34 +1,42 @@
-//! Where a format ends, by 01's five steps of reading a directive.
+//! The directives of a format and where it ends, by 01's five steps of reading a directive.
 
-/// Whether the format ends inside a directive.
-pub fn ends_inside(format: &[u8]) -> bool {
+/// Hands over the byte that stands for each directive's letter. True if the format ends inside a directive.
+pub fn ends_inside(format: &[u8], mut letter: impl FnMut(u8)) -> bool {
     let mut rest = format;
     while let Some(at) = rest.iter().position(|&byte| byte == b'%') {
-        match behind_directive(&rest[at + 1..]) {
-            Some(behind) => rest = behind,
-            None => return true,
-        }
+        let Some((read, behind)) = directive(&rest[at + 1..]) else {
+            return true;
+        };
+        read.into_iter().for_each(&mut letter);
+        rest = behind;
     }
     false
 }
 
-/// What follows a directive, from behind its `%`; nothing if the format ends inside it.
-fn behind_directive(rest: &[u8]) -> Option<&[u8]> {
+/// The letter of a directive, from behind its `%`, and what follows. An echo may have none. Nothing if the format ends inside it.
+fn directive(rest: &[u8]) -> Option<(Option<u8>, &[u8])> {
     let rest = behind(rest, |byte| b"-_0^#".contains(&byte));
     if rest.first().is_some_and(|byte| !byte.is_ascii()) {
-        return Some(rest);
+        return Some((None, rest));
     }
     let after_width = behind(rest, |byte| byte.is_ascii_digit());
     if too_wide(&rest[..rest.len() - after_width.len()]) {
-        return Some(after_width);
+        return Some((None, after_width));
     }
     let rest = behind_modifier(after_width);
     let after_colons = behind(rest, |byte| byte == b':');
     if after_colons.len() < rest.len() {
-        return Some(after_colons.strip_prefix(b"z").unwrap_or(after_colons));
+        return Some(match after_colons.strip_prefix(b"z") {
+            Some(after) => (Some(b'z'), after),
+            None => (None, after_colons),
+        });
     }
-    let (first, after) = rest.split_first()?;
-    Some(if first.is_ascii() { after } else { rest })
+    let (&first, after) = rest.split_first()?;
+    Some(if first.is_ascii() {
+        (Some(first), after)
+    } else {
+        (None, rest)
+    })
 }
 
 fn behind(bytes: &[u8], skipped: impl Fn(u8) -> bool) -> &[u8] {

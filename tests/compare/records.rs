@@ -3,10 +3,12 @@
 use crate::library::FlatRecord;
 use crate::lot::Lot;
 
-/// One field in `odds` is out of its range; none where `odds` is 0.
+/// One field in `odds` is out of its range, and day 366 in any year; none where `odds` is 0.
 pub fn any_record(lot: &mut Lot, odds: usize) -> FlatRecord {
+    let year = year(lot);
+    let last_day = if odds == 0 && !leap(year) { 365 } else { 366 };
     FlatRecord {
-        year: year(lot),
+        year,
         month: field(lot, odds, 1, 12, 255) as u8,
         day: field(lot, odds, 1, 31, 255) as u8,
         hour: field(lot, odds, 0, 23, 255) as u8,
@@ -14,11 +16,15 @@ pub fn any_record(lot: &mut Lot, odds: usize) -> FlatRecord {
         second: field(lot, odds, 0, 60, 255) as u8,
         nanoseconds: field(lot, odds, 0, 999_999_999, u32::MAX.into()) as u32,
         day_of_week: field(lot, odds, 0, 6, 255) as u8,
-        day_of_year: field(lot, odds, 1, 366, 65_535) as u16,
+        day_of_year: field(lot, odds, 1, last_day, 65_535) as u16,
         to_int: signed(lot, i64::MIN, i64::MAX),
         is_utc: lot.one_of(&[0, 0, 0, 1, 1, 2, 128, 255]),
         utc_offset: offset(lot),
     }
+}
+
+pub fn leap(year: i32) -> bool {
+    year % 4 == 0 && (year % 100 != 0 || year % 400 == 0)
 }
 
 fn field(lot: &mut Lot, odds: usize, low: i64, high: i64, most: i64) -> i64 {

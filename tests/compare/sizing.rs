@@ -1,4 +1,4 @@
-//! Tries sizes: each is measured with the original, and stamps are made in buffers of just that length.
+//! Tries sizes: each is measured with the judge, and stamps are made in buffers of just that length.
 
 use crate::library::{self, Answer, FlatRecord, LONGEST_BUFFER, LONGEST_FORMAT, LONGEST_ZONE};
 use crate::line::encoded;
@@ -99,7 +99,7 @@ impl Sizing {
         }
     }
 
-    fn original(&mut self, asked: Asked, zone: &[u8], record: &FlatRecord, room: usize) -> Told {
+    fn judge(&mut self, asked: Asked, zone: &[u8], record: &FlatRecord, room: usize) -> Told {
         let buffer = &mut self.buffer[..room];
         strftime(&record.with_zone(zone), asked.format, buffer).map_err(u32::from)
     }
@@ -132,16 +132,16 @@ impl Sizing {
         }
     }
 
-    /// By 01's order: 5, then 2, then 6. The length is that of the witnesses' texts by the original.
+    /// By 01's order: 5, then 2, then 6. The length is that of the witnesses' texts by the judge.
     fn wanted(&mut self, asked: Asked) -> Told {
         if asked.format.len() > LONGEST_FORMAT || asked.longest > LONGEST_ZONE {
             return Err(INPUT_TOO_LONG);
         }
         let zone = vec![b'x'; asked.longest];
         let texts = MONTHS_OF_WITNESSES
-            .map(|month| self.original(asked, &zone, &witness(month), LONGEST_BUFFER));
-        let cut = ends_inside(asked.format);
-        // Where the original comes to the end of the format, it says how that ends.
+            .map(|month| self.judge(asked, &zone, &witness(month), LONGEST_BUFFER));
+        let cut = ends_inside(asked.format, |_| ());
+        // Where the judge comes to the end of the format, it says how that ends.
         for text in texts {
             let read = match text {
                 Ok(_) => !cut,
@@ -200,7 +200,7 @@ impl Sizing {
     fn fits(&mut self, asked: Asked, zone: &[u8], record: &FlatRecord, room: usize, bad: bool) {
         self.stamps += 1;
         for answer in [
-            self.original(asked, zone, record, room),
+            self.judge(asked, zone, record, room),
             self.library(asked, zone, record, room),
         ] {
             let fits = answer.is_ok() || bad && answer == Err(INVALID_TIME);

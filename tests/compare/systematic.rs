@@ -40,7 +40,7 @@ const LEAST: FlatRecord = FlatRecord {
     ..LEAP
 };
 const LATE: FlatRecord = FlatRecord {
-    year: 12_345,
+    year: 12_344,
     month: 12,
     day: 31,
     hour: 23,
@@ -53,6 +53,12 @@ const LATE: FlatRecord = FlatRecord {
     is_utc: 0,
     utc_offset: -36_000,
 };
+/// Day 366 of a common year.
+const MISSING: FlatRecord = FlatRecord {
+    year: 2023,
+    day_of_week: 1,
+    ..LATE
+};
 
 pub fn try_systematic(judge: &mut Judge) {
     directives(judge);
@@ -63,6 +69,7 @@ pub fn try_systematic(judge: &mut Judge) {
     longest_inputs(judge);
     fields(judge);
     days_of_the_year(judge);
+    day_366(judge);
     nanoseconds(judge);
     zone_bytes(judge);
     years(judge);
@@ -116,7 +123,7 @@ fn directives(judge: &mut Judge) {
         for flags in flag_sets() {
             for width in widths.iter().map(String::as_str).chain([""]) {
                 let format = format!("%{flags}{width}{letter}");
-                for record in [LEAP, BEFORE, LEAST, LATE] {
+                for record in [LEAP, BEFORE, LEAST, LATE, MISSING] {
                     in_all_rooms(judge, format.as_bytes(), b"Cet", record);
                 }
             }
@@ -253,6 +260,23 @@ fn days_of_the_year(judge: &mut Judge) {
         };
         for format in ["%j", "%U", "%W", "%V", "%G", "%g", "%c"] {
             in_a_wide_room(judge, format, b"", record);
+        }
+    }
+}
+
+/// Under every directive, whether it reads the day or not, in common years and in leap years; centuries of both sorts.
+fn day_366(judge: &mut Judge) {
+    let centuries = (-40..=40).map(|n| n * 100);
+    for year in every_year().chain(centuries) {
+        for letter in LETTERS {
+            let format = format!("%{}", char::from(*letter));
+            let day_of_week = year.rem_euclid(7) as u8;
+            let record = FlatRecord {
+                year,
+                day_of_week,
+                ..LATE
+            };
+            in_a_wide_room(judge, &format, b"", record);
         }
     }
 }

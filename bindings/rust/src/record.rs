@@ -35,7 +35,7 @@ pub struct Record<'a> {
     pub nanoseconds: u32,
     /// The day of the week, `0..=6`; Sunday is 0.
     pub day_of_week: u8,
-    /// The day of the year, `1..=366`.
+    /// The day of the year, `1..=366`, 366 only in a leap year.
     pub day_of_year: u16,
     /// The seconds since 1970-01-01 00:00:00 UTC, which `%s` prints.
     pub to_int: i64,

@@ -17,7 +17,7 @@ pub trait Time {
     /// Returns an integer representing the day of the week in `0..=6`, with
     /// `Sunday == 0`.
     fn day_of_week(&self) -> u8;
-    /// Returns an integer representing the day of the year in `1..=366`.
+    /// Returns an integer representing the day of the year in `1..=366`, 366 only in a leap year.
     fn day_of_year(&self) -> u16;
     /// Returns the number of seconds as a signed integer since the Epoch.
     fn to_int(&self) -> i64;

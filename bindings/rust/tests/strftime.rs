@@ -8,6 +8,7 @@ struct Sale {
     year: i32,
     month: u8,
     second: u8,
+    day_of_year: u16,
     is_utc: bool,
     utc_offset: i32,
     zone: String,
@@ -18,6 +19,7 @@ fn sale() -> Sale {
         year: 2024,
         month: 2,
         second: 9,
+        day_of_year: 60,
         is_utc: false,
         utc_offset: 3600,
         zone: String::from("CET"),
@@ -50,7 +52,7 @@ impl Time for Sale {
         4
     }
     fn day_of_year(&self) -> u16 {
-        60
+        self.day_of_year
     }
     fn to_int(&self) -> i64 {
         1_709_211_909
@@ -133,6 +135,19 @@ fn each_error() {
         ..sale()
     };
     refused(&foreign, b"%Z", 8, Error::InvalidTime);
+}
+
+#[test]
+fn only_leap_years_have_a_day_366() {
+    let leap = Sale {
+        day_of_year: 366,
+        ..sale()
+    };
+    assert_eq!(text(&leap, "%j"), "366");
+    let common = Sale { year: 2023, ..leap };
+    refused(&common, b"%j", 8, Error::InvalidTime);
+    refused(&common, b"%G %V", 8, Error::InvalidTime);
+    assert_eq!(text(&common, "%Y"), "2023");
 }
 
 #[test]

@@ -59,13 +59,15 @@ pub fn day_of_week(record: Record) -> bool
 fn last_day_of(year: i32) -> u16
     ensures { λ r. ⌜ r ≡ lastDayOf year ⌝ }
 {
-    366
+    week::days_in(year as i64)
 }
 
+// The original takes day 366 in any year.
 pub fn day_of_year(record: Record) -> bool
     ensures { λ r. ⌜ ((zone : List ℕ) → r ≡ okField dayOfYear «record» zone) ⌝ }
 {
-    1 <= record.day_of_year && record.day_of_year <= last_day_of(record.year)
+    let day = record.day_of_year;
+    1 <= day && (day <= 365 || day <= last_day_of(record.year))
 }
 
 fn zone_byte(b: u8) -> bool

@@ -19,6 +19,7 @@ use Rattle.rules.proofs.DecimalLaws.{count-le, length-decimal-pos}
 use Rattle.rules.proofs.FloorLaws.{mod-below}
 use Rattle.rules.proofs.RecordLaws.{in-range}
 use Rattle.rules.proofs.WeekLaws.{week-number-to, iso-week-to}
+use Rattle.rules.proofs.YearLaws.{days-to}
 use Rattle.rules.proofs.WidthLaws.{hour12-below}
 use Rattle.longest.proofs.Measure.{textLength, widthIn, hoursLength, formLength}
 
@@ -97,7 +98,7 @@ module _ (r : Record) (zone : List ℕ) (h : InRange r zone) where
   at-most b m w k Month = k
   at-most b m w k MonthDayZero = few 1 _ (omega (arith, in-range r zone h day))
   at-most b m w k MonthDaySpace = few 1 _ (omega (arith, in-range r zone h day))
-  at-most b m w k YearDay = few 2 _ (omega (arith, in-range r zone h dayOfYear))
+  at-most b m w k YearDay = few 2 _ (omega (arith, in-range r zone h dayOfYear, days-to (r .year)))
   at-most b m w k Hour24hZero = few 1 _ (omega (arith, in-range r zone h hour))
   at-most b m w k Hour24hSpace = few 1 _ (omega (arith, in-range r zone h hour))
   at-most b m w k Hour12hZero = few 1 _ (hour12-below (r .hour))
@@ -108,7 +109,7 @@ module _ (r : Record) (zone : List ℕ) (h : InRange r zone) where
   at-most b m w k WeekDayFrom0 = few 0 _ (omega (arith, in-range r zone h weekday))
   at-most b m w k YearIso8601 = w .iso
   at-most b m w k YearIso8601Rem100 = few 1 _ (mod-below (isoWeek (r .year) (r .«day_of_week») (r .«day_of_year») .year) 100 (lit< tt))
-  at-most b m w k WeekNumberIso8601 = few 1 _ (omega (arith, iso-week-to (r .year) (r .«day_of_week») (r .«day_of_year»)))
-  at-most b m w k WeekNumberFromSunday = few 1 _ (omega (arith, week-number-to 0 (r .«day_of_week») (r .«day_of_year») (in-range r zone h dayOfYear .1)))
-  at-most b m w k WeekNumberFromMonday = few 1 _ (omega (arith, week-number-to 1 (r .«day_of_week») (r .«day_of_year») (in-range r zone h dayOfYear .1)))
+  at-most b m w k WeekNumberIso8601 = few 1 _ (omega (arith, iso-week-to (r .year) (r .«day_of_week») (r .«day_of_year») (in-range r zone h dayOfYear .1)))
+  at-most b m w k WeekNumberFromSunday = few 1 _ (omega (arith, week-number-to 0 (r .year) (r .«day_of_week») (r .«day_of_year») (in-range r zone h dayOfYear .1)))
+  at-most b m w k WeekNumberFromMonday = few 1 _ (omega (arith, week-number-to 1 (r .year) (r .«day_of_week») (r .«day_of_year») (in-range r zone h dayOfYear .1)))
   at-most b m w k SecondsSinceEpoch = w .to-int

@@ -27,6 +27,7 @@ use Rattle.rules.specs.Name.{nameOf}
 use Rattle.rules.specs.Writing.{valueOf, combinationText, numberFields, nameFields, combinationFields, fieldsOf, leadOf, bodyOf, specEvents, eventsOf}
 use Rattle.rules.specs.Size.{Excused}
 use Rattle.rules.proofs.RecordLaws.{Passed}
+use Rattle.rules.proofs.YearLaws.{days-from}
 use Rattle.longest.specs.Witness.{Stamp}
 use Rattle.longest.proofs.Beside.{Beside, fails, beside-self, beside-join}
 use Rattle.longest.proofs.Checks.{check-cases, check-passes}
@@ -61,12 +62,9 @@ unfolding zoneOk
 letters-ok zero = tt
 letters-ok (suc n) = letters-ok n
 
-year-long : (year : ℤ) → 365 ≤ lastDayOf year
-year-long year = lit≤ tt
-
 -- a day that every year has
 pub day-ok : (year : ℤ) (n : ℕ) → 1 ≤ n → n ≤ 365 → T (within 1 (lastDayOf year) n)
-day-ok year n h l = rw (le-leb 1 n h, le-leb n (lastDayOf year) (omega (arith, year-long year))) tt
+day-ok year n h l = rw (le-leb 1 n h, le-leb n (lastDayOf year) (omega (arith, days-from year))) tt
 
 pub mend-in-range : (r : Record) (zone : List ℕ) → InRange (mend r zone .time) (mend r zone .zone)
 unfolding mend okField

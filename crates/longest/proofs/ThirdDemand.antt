@@ -17,7 +17,7 @@ use Rattle.rules.specs.declared.Answer.{Answer}
 use Rattle.rules.specs.Refusal.{ByEvent, invalid-format-string, Report, numbered}
 use Rattle.rules.specs.Decimal.{digits, digitsWithin, decimalText, floorDiv}
 use Rattle.rules.specs.Calendar.{isLeap, leapDay, daysIn}
-use Rattle.rules.specs.Week.{weekHolding, thursdayRule, isoWeek}
+use Rattle.rules.specs.Week.{weekHolding, isoWeek}
 use Rattle.rules.specs.Offset.{hoursOf, minus, extra, Form, hh, hhmm, hh:mm, hh:mm:ss, formOf, lengthOfForm}
 use Rattle.rules.specs.Writing.{valueOf, defaultWidth}
 use Rattle.rules.specs.Format.{items, fault, valid}
@@ -72,7 +72,7 @@ typed-within r t =
     }
 
 longest-meets : (longest m : ℕ) → Meets bounds (longestIn m longest .time)
-unfolding witness valueOf defaultWidth decimalText digits digitsWithin isoWeek thursdayRule weekHolding daysIn leapDay isLeap extra formOf lengthOfForm
+unfolding witness valueOf defaultWidth decimalText digits digitsWithin isoWeek weekHolding daysIn leapDay isLeap extra formOf lengthOfForm
 longest-meets longest m =
     record {
       year = lit≤ tt;

@@ -27,7 +27,7 @@ use Rattle.rules.proofs.FloorLaws.{mod-below, div-mod}
 use Rattle.rules.proofs.OneAnswer.{refusalAt, refusal-at}
 use Rattle.rules.proofs.RecordLaws.{all-ok}
 use Rattle.rules.proofs.Shift.{Is, is-pos, is-add, is-minus, is-times, within-shift, shift-within}
-use Rattle.rules.proofs.YearLaws.{leap-day-to, days-to}
+use Rattle.rules.proofs.YearLaws.{leap-day-to}
 use Rattle.rules.proofs.CalendarLaws.{starts, leap-is, room, month-to, month-in}
 use Rattle.rules.proofs.Dates.{day-is, date-unique}
 
@@ -178,7 +178,7 @@ module _ {count offset : ℤ} {nanos : ℕ} {utc : Bool} (r : Record) (made-r : 
         | second ↦ le→leb (r .second) 60 (omega (arith, p .clock .second))
         | nanoseconds ↦ le→leb (r .nanoseconds) 999999999 (omega (arith, p .nanoseconds, made-record .1))
         | weekday ↦ le→leb (r .«day_of_week») 6 (omega (arith, p .weekday, mod-below (dayNumber (r .year) (r .month) (r .day) +ℤ pos 4) 7 (lit< tt)))
-        | dayOfYear ↦ both-pass (made-year-day .0) (omega (arith, made-year-day .1, days-to (r .year)))
+        | dayOfYear ↦ both-pass (made-year-day .0) (made-year-day .1)
         | zoneName ↦ ok
       ]
     where

@@ -49,7 +49,7 @@ rising z (suc k) =
     let e : z + suc k ≡ z + k + 1 = omega arith in
     rw e (omega (arith, rising z k, one-year (z + k)))
 
-year-one : (n y z : ℕ) → InYear n y → InYear n z → y ≡ z
+pub year-one : (n y z : ℕ) → InYear n y → InYear n z → y ≡ z
 year-one n y z a b =
     elim (decLt y z) [
       | yes h ↦ absurd (over y z h (a .not-over) (b .begun))

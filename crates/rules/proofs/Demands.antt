@@ -7,19 +7,11 @@ use native.Mathlib.Omega.{arith}
 use lib.Dec.{lit≤}
 use lib.ListN.{length, drop, getD, length-append, length-drop}
 use lib.Seq.{getD-append-add, getD-drop}
-use lib.IntN.{pos}
 use Rattle.rules.specs.declared.Record.{Record}
-use Rattle.rules.specs.declared.IsoWeek.{IsoWeek}
-use Rattle.rules.specs.declared.Number.the-variants.{YearIso8601, YearIso8601Rem100, WeekNumberIso8601}
 use Rattle.rules.specs.Record.{longestZone, longestBuffer}
 use Rattle.rules.specs.Refusal.{ByEvent}
 use Rattle.rules.specs.Event.{Event, textOf, Count, at, no, tally, done, refused, outcomeOf, run, reported, bufferAfter}
-use Rattle.rules.specs.Decimal.{floorMod}
-use Rattle.rules.specs.Calendar.{daysIn}
-use Rattle.rules.specs.Week.{thursdayRule}
-use Rattle.rules.specs.Writing.{valueOf}
 use Rattle.rules.specs.Format.{items, read, ending, events, limitOf, formatEvents, formatted}
-use Rattle.rules.proofs.WeekLaws.{iso-exists}
 use Rattle.rules.proofs.FormatLaws.{runs, Numbered, numbered-items, CountOk, tally-ok}
 use Rattle.rules.proofs.EventLaws.{length-text, run-done}
 
@@ -88,18 +80,3 @@ beyond-kept text buffer i h =
 pub empty-format : (zone : List ℕ) (r : Record) (room : ℕ) → length zone ≤ longestZone → room ≤ longestBuffer → formatted [] zone r room ≡ done []
 unfolding run read ending events tally textOf
 empty-format zone r room h g = runs [] zone r room (lit≤ tt) h g
-
--- ## ISO weeks
-
--- "For a day that exists in its year, ISO year and week are those of ISO 8601"
-pub weeks-of-iso-8601 : (r : Record) → r .«day_of_year» ≤ daysIn (r .year) →
-    (valueOf YearIso8601 r ≡ thursdayRule (r .year) (r .«day_of_week») (r .«day_of_year») .year)
-    × (valueOf YearIso8601Rem100 r ≡ pos (floorMod (thursdayRule (r .year) (r .«day_of_week») (r .«day_of_year») .year) 100))
-    × (valueOf WeekNumberIso8601 r ≡ pos (thursdayRule (r .year) (r .«day_of_week») (r .«day_of_year») .week))
-unfolding valueOf
-weeks-of-iso-8601 r h =
-    let e = iso-exists (r .year) (r .«day_of_week») (r .«day_of_year») h in (
-      ap (λ (w : IsoWeek). w .year) e,
-      ap (λ (w : IsoWeek). pos (floorMod (w .year) 100)) e,
-      ap (λ (w : IsoWeek). pos (w .week)) e,
-    )

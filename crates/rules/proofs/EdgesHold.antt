@@ -6,7 +6,7 @@ use Rattle.rules.specs.Event.{Outcome, bytesOf, textOf, roomFor, writeAt
 use Rattle.rules.specs.Decimal.{digitsWithin, digits, places, decimalText, filled}
 use Rattle.rules.specs.Name.{monthNames, monthName, upper, inCase}
 use Rattle.rules.specs.Calendar.{isLeap, leapDay, daysIn}
-use Rattle.rules.specs.Week.{weekNumber, weekHolding, thursdayRule, isoWeek}
+use Rattle.rules.specs.Week.{weekNumber, weekHolding, isoWeek}
 use Rattle.rules.specs.Offset.{extra, formOf, lengthOfForm, partsOf, signAndPad, offsetWrites}
 use Rattle.rules.specs.Record.{zoneOk, okField, allOk}
 use Rattle.rules.specs.Reading.{onFlag, possibleSpecs, lookUp, onLetter, onColons, turn, open?}
@@ -20,5 +20,5 @@ pub edges-hold : outcomes edges ≡ map (λ (e : Edge). e .outcome) edges
 unfolding edges formatted formatEvents run tally one writeAt roomFor textOf bytesOf events itemEvents read ending step turn open?
     onFlag onLetter onColons lookUp possibleSpecs eventsOf specEvents verdictOf verdict leadOf bodyOf fieldsOf numberFields combinationFields allOk okField zoneOk
     valueOf defaultWidth fillOf numberWrites filled decimalText digits digitsWithin combinationLength combinationText flatten monthName monthNames
-    inCase upper weekNumber isoWeek thursdayRule weekHolding daysIn leapDay isLeap offsetWrites signAndPad partsOf lengthOfForm formOf extra places zoneWrites nameWrites
+    inCase upper weekNumber isoWeek weekHolding daysIn leapDay isLeap offsetWrites signAndPad partsOf lengthOfForm formOf extra places zoneWrites nameWrites
 edges-hold = refl

@@ -46,6 +46,12 @@ holds-join [] ys h k = k
 holds-join (write w ∷ xs) ys h k = holds-join xs ys h k
 holds-join (check ok number ∷ xs) ys h k = (h .0, holds-join xs ys (h .1) k)
 
+pub holds-split : (xs ys : List Event) → Holds (xs ++ ys) → Holds xs × Holds ys
+unfolding Holds
+holds-split [] ys h = (tt, h)
+holds-split (write w ∷ xs) ys h = holds-split xs ys h
+holds-split (check ok number ∷ xs) ys h = let k = holds-split xs ys (h .1) in ((h .0, k .0), k .1)
+
 pub holds-writes : (ws : List Write) → Holds (map write ws)
 unfolding Holds
 holds-writes [] = tt

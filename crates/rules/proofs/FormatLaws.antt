@@ -38,7 +38,12 @@ module _ (format zone : List ℕ) (r : Record) (room : ℕ) where
   buffer-too-long f z b =
       rw (le-leb (length format) longestFormat f, le-leb (length zone) longestZone z, lt-leb room longestBuffer b, pass-first, pass-first, stop-first)
 
--- ## A check that fails has a number of the table
+-- ## A check that passes, or fails with a number of the table
+
+pub passes : (inRange : Bool) → eqb (verdict inRange) 0 ≡ true → inRange ≡ true
+unfolding verdict
+passes true e = refl
+passes false e = e
 
 module _ (Given : ℕ → Type 0) where
   unfoldable pub Numbered : List Event → Type 0

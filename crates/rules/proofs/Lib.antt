@@ -8,6 +8,7 @@ pub mod EdgesHold
 pub mod EventLaws
 pub mod FloorLaws
 pub mod FormatLaws
+pub mod IsoWeeks
 pub mod Joining
 pub mod LimitLaws
 pub mod MatchLaws
@@ -24,4 +25,5 @@ pub mod Walk
 pub mod WeekLaws
 pub mod WidthLaws
 pub mod WidthsRead
+pub mod YearDays
 pub mod YearLaws

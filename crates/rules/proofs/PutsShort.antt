@@ -30,14 +30,16 @@ use Rattle.rules.specs.Name.{dayNames, monthNames, dayName, monthName, a
 use Rattle.rules.specs.Week.{isoWeek}
 use Rattle.rules.specs.Offset.{hoursOf, minutesOf, Form, hh, hhmm, hh:mm, hh:mm:ss, partsOf, signAndPad, offsetWrites}
 use Rattle.rules.specs.Reading.{turn, open?}
-use Rattle.rules.specs.Writing.{orIfZero, valueOf, numberWrites, nameWrites, fixedByte, zoneWrites, fractionWrites, yearWidth, dayText, combinationText, numberFields, combinationFields, fieldsOf, leadOf, bodyOf, verdict, verdictOf, specEvents, eventsOf}
+use Rattle.rules.specs.Writing.{orIfZero, valueOf, numberWrites, nameWrites, fixedByte, zoneWrites, fractionWrites, yearWidth, dayText, combinationText, numberFields, combinationFields, fieldsOf, leadOf, bodyOf, verdictOf, specEvents, eventsOf}
 use Rattle.rules.specs.Format.{Item, literal, echo, directive, cut, State, between, inside, Step, fresh, onTurn, step, ending, items, itemEvents, events}
 use Rattle.rules.specs.Size.{Typed}
 use Rattle.rules.proofs.DecimalLaws.{count-le, length-places, length-text-to, length-filled}
 use Rattle.rules.proofs.EachItem.{AllItems, all-read}
 use Rattle.rules.proofs.FloorLaws.{mod-below}
+use Rattle.rules.proofs.FormatLaws.{passes}
 use Rattle.rules.proofs.RecordLaws.{by-test, both, Each, ranges-of}
 use Rattle.rules.proofs.WeekLaws.{week-number-to, iso-week-to, iso-year-near}
+use Rattle.rules.proofs.YearLaws.{days-to}
 use Rattle.rules.proofs.WidthLaws.{year-narrow, hour12-below, length-cased}
 
 abbrev pub longestPut : ℕ
@@ -214,7 +216,7 @@ module _ (r : Record) (typed : Typed r) where
   value-small Month h = omega arith
   value-small MonthDayZero h = omega arith
   value-small MonthDaySpace h = omega arith
-  value-small YearDay h = omega arith
+  value-small YearDay h = omega (arith, days-to (r .year))
   value-small Hour24hZero h = omega arith
   value-small Hour24hSpace h = omega arith
   value-small Hour12hZero h = omega (arith, hour12-below (r .hour))
@@ -225,9 +227,9 @@ module _ (r : Record) (typed : Typed r) where
   value-small WeekDayFrom0 h = omega arith
   value-small YearIso8601 h = omega (arith, typed .year, iso-year-near (r .year) (r .«day_of_week») (r .«day_of_year»))
   value-small YearIso8601Rem100 h = omega (arith, mod-below (isoWeek (r .year) (r .«day_of_week») (r .«day_of_year») .year) 100 (lit< tt))
-  value-small WeekNumberIso8601 h = omega (arith, iso-week-to (r .year) (r .«day_of_week») (r .«day_of_year»))
-  value-small WeekNumberFromSunday h = omega (arith, week-number-to 0 (r .«day_of_week») (r .«day_of_year») (h .1 .0 .1))
-  value-small WeekNumberFromMonday h = omega (arith, week-number-to 1 (r .«day_of_week») (r .«day_of_year») (h .1 .0 .1))
+  value-small WeekNumberIso8601 h = omega (arith, iso-week-to (r .year) (r .«day_of_week») (r .«day_of_year») (h .1 .0 .1))
+  value-small WeekNumberFromSunday h = omega (arith, week-number-to 0 (r .year) (r .«day_of_week») (r .«day_of_year») (h .1 .0 .1))
+  value-small WeekNumberFromMonday h = omega (arith, week-number-to 1 (r .year) (r .«day_of_week») (r .«day_of_year») (h .1 .0 .1))
   value-small SecondsSinceEpoch h = omega (arith, typed .to-int)
 
   year-short : (w : ℕ) → w ≤ 5 → length (filled zeros w (r .year)) ≤ 20
@@ -269,11 +271,6 @@ module _ (r : Record) (typed : Typed r) where
     lead-short TimeZoneName p = tt
     lead-short (fixed f) p = tt
     lead-short (combination c) p = (tt, tt)
-
-    passes : (inRange : Bool) → eqb (verdict inRange) 0 ≡ true → inRange ≡ true
-    unfolding verdict
-    passes true e = refl
-    passes false e = e
 
     piece-short : (p : Piece) → ReachedShort (eventsOf r zone p)
     unfolding eventsOf specEvents verdictOf ReachedShort

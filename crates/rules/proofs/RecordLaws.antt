@@ -7,6 +7,7 @@ use lib.Dec.{T}
 use borrow.Author.Tests.{leb-true}
 use Rattle.rules.specs.declared.Record.{Record}
 use Rattle.rules.specs.Record.{Field, month, day, hour, minute, second, nanoseconds, weekday, dayOfYear, zoneName, within, okField, allOk, InRange}
+use Rattle.rules.specs.Calendar.{daysIn}
 
 -- ## Tests
 
@@ -37,7 +38,7 @@ Within minute r = r .minute ≤ 59
 Within second r = r .second ≤ 60
 Within nanoseconds r = r .nanoseconds ≤ 999999999
 Within weekday r = r .«day_of_week» ≤ 6
-Within dayOfYear r = (1 ≤ r .«day_of_year») × (r .«day_of_year» ≤ 366)
+Within dayOfYear r = (1 ≤ r .«day_of_year») × (r .«day_of_year» ≤ daysIn (r .year))
 Within zoneName r = Unit {0}
 
 pub range-of : (f : Field) (r : Record) (zone : List ℕ) → okField f r zone ≡ true → Within f r

@@ -6,6 +6,7 @@ use lib.Dec.{T, ltb, leb}
 use lib.IntN.{ℤ}
 use lib.Signed.{mag}
 use Rattle.rules.specs.declared.Record.{Record}
+use Rattle.rules.specs.Calendar.{daysIn}
 
 -- "Longest inputs: format 4,096 bytes, zone 64, buffer 65,536."
 abbrev pub longestFormat : ℕ
@@ -54,9 +55,9 @@ unfoldable pub zoneOk : List ℕ → Bool
 zoneOk [] = true
 zoneOk (b ∷ zone) = zoneByteOk b && zoneOk zone
 
--- "day of year 1..366", in any year
+-- "day of year 1..366"; "the day-of-year check takes the year too and answers InvalidTime for 366 in a common year" (02, request 2)
 abbrev pub lastDayOf : ℤ → ℕ
-lastDayOf year = 366
+lastDayOf year = daysIn year
 
 abbrev pub within : ℕ → ℕ → ℕ → Bool
 within least most n = leb least n && leb n most

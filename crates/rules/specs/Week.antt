@@ -1,12 +1,13 @@
 -- Week numbers (01, "`U`, `W`" and "`G`, `g`, `V`"), the Thursday rule of ISO 8601, and the original's function beside it.
-use mathlib.Core.Bool.{Bool, true, false, cond, _&&_}
-use Prim.Native.Nat.{ℕ, zero, suc, _+_, _-_, _/_, _%_}
-use lib.Dec.{ltb, leb, eqb}
+use mathlib.Core.Path.{_≡_}
+use mathlib.Core.Bool.{Bool, cond, _&&_}
+use Prim.Native.Nat.{ℕ, zero, suc, _+_, _-_, _/_, _%_, _<_}
+use lib.Dec.{ltb}
 use lib.IntN.{ℤ, pos, negsuc, _+ℤ_, _-ℤ_}
 use lib.Signed.{ltZ, leZ, quotZ, remZ}
 use Rattle.rules.specs.declared.IsoWeek.{IsoWeek}
 use Rattle.rules.specs.Decimal.{floorMod}
-use Rattle.rules.specs.Calendar.{isLeap, daysIn}
+use Rattle.rules.specs.Calendar.{isLeap, daysIn, yearStart}
 
 -- "with d the zero-based day and s = (d − weekday) mod 7 for `U`, (d − weekday + 1) mod 7 for `W`, the number is (d + 7 − s) / 7":
 -- start is 0 for `U` and 1 for `W`
@@ -31,18 +32,17 @@ weekHolding y (pos t) =
     cond (ltb t (daysIn y)) (record { year = y; week = t / 7 + 1 }) (record { year = y +ℤ pos 1; week = (t - daysIn y) / 7 + 1 })
 
 -- ISO 8601: "the year holding the Thursday of that Monday-based week"
-unfoldable pub thursdayRule : ℤ → ℕ → ℕ → IsoWeek
-thursdayRule y weekday day = weekHolding y (thursdayOf weekday day)
-
--- "Day 366 of a common year": "what the Thursday rule gives if that day is read as January 1 of the next year, except Monday:
--- it answers week 53 of the given year."
 unfoldable pub isoWeek : ℤ → ℕ → ℕ → IsoWeek
-isoWeek y weekday day =
-    cond (ltb (daysIn y) day)
-    (cond (eqb weekday 1) (record { year = y; week = 53 }) (thursdayRule (y +ℤ pos 1) weekday 1))
-    (thursdayRule y weekday day)
+isoWeek y weekday day = weekHolding y (thursdayOf weekday day)
 
--- The original's function, week.rs line for line. Nothing else is defined by it; that it answers `isoWeek` is proved.
+-- the same by the calendar: that Thursday is day `ordinal`, from 0, of the year
+pub record Iso8601 (y : ℤ) (weekday day : ℕ) (r : IsoWeek) : Type 0 where
+  pub ordinal : ℕ
+  pub in-year : ordinal < daysIn (r .year)
+  pub thursday : yearStart (r .year) +ℤ pos ordinal ≡ yearStart y +ℤ thursdayOf weekday day
+  pub week : r .week ≡ ordinal / 7 + 1
+
+-- The original's function, week.rs line for line. Nothing else is defined by it; that it answers `isoWeek` for a day that exists in its year is proved.
 pub record YearAndWeek : Type 0 where
   pub year : ℤ
   pub week : ℤ

@@ -10,6 +10,7 @@ use Rattle.rules.specs.declared.Number.{Number}
 use Rattle.rules.specs.declared.Padding.{Padding}
 use Rattle.rules.specs.declared.Record.{Record}
 use Rattle.rules.specs.Record.{Field, okField, allOk, weekday, dayOfYear}
+use Rattle.rules.specs.Calendar.{daysIn}
 use Rattle.rules.specs.Decimal.{Fill}
 use Rattle.rules.specs.Writing.{orIfZero, valueOf, defaultWidth, fillOf, numberFields}
 use Rattle.rules.proofs.RecordLaws.{ranges-of}
@@ -28,7 +29,7 @@ not-zero other n h = rw (ne-eqb n 0 h)
 
 -- ## Fields in range
 
-pub week-range : (r : Record) → InWeek r → (r .«day_of_week» ≤ 6) × (1 ≤ r .«day_of_year») × (r .«day_of_year» ≤ 366)
+pub week-range : (r : Record) → InWeek r → (r .«day_of_week» ≤ 6) × (1 ≤ r .«day_of_year») × (r .«day_of_year» ≤ daysIn (r .year))
 week-range r h = let e = ranges-of _ r [] (h []) in (e .0, e .1 .0 .0, e .1 .0 .1)
 
 module _ (r : Record) {ok : Bool} (checked : (zone : List ℕ) → ok ≡ allOk (weekday ∷ dayOfYear ∷ []) r zone) where

@@ -35,7 +35,7 @@ pub fn week_number(week_day: u8, year_day_1: u16, week_start: WeekStart) -> u8
 // The ISO 8601 week-based year and week number. "The first week of YYYY starts with a Monday and includes YYYY-01-04.
 // The days in the year before the first week are in the last week of the previous year."
 pub fn iso_8601_year_and_week_number(year: i32, week_day: u8, year_day_1: u16) -> IsoWeek
-    requires { ⌜ («week_day» ≤ 6) × (1 ≤ «year_day_1») × («year_day_1» ≤ 366) ⌝ }
+    requires { ⌜ («week_day» ≤ 6) × (1 ≤ «year_day_1») × («year_day_1» ≤ daysIn year) ⌝ }
     ensures { λ r. ⌜ r ≡ isoWeek year «week_day» «year_day_1» ⌝ }
 {
     year_and_week_number(year as i64, week_day as u16, year_day_1, 1)
@@ -103,7 +103,7 @@ fn in_last_week(year: i64, week_day: u16, year_day: u16) -> bool
     false
 }
 
-fn days_in(year: i64) -> u16
+pub fn days_in(year: i64) -> u16
     ensures { λ r. ⌜ r ≡ daysIn year ⌝ }
 {
     if is_leap_year(year) { 366 } else { 365 }

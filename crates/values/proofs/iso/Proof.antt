@@ -1,16 +1,21 @@
 -- `iso` asks for the ISO week where the check has shown what it requires.
-use mathlib.Core.Path.{ap, _∙_}
+use mathlib.Core.Path.{ap, _∙_, subst⁻¹}
+use Prim.Native.Nat.{_≤_}
 use lib.IntN.{ℤ}
 use mir.Syntax.{w32}
 use mir.ValLaws.{toZ-ofZ}
 use borrow.Author.Needs.{needs}
+use Rattle.rules.specs.Calendar.{daysIn}
 use Rattle.rules.specs.Week.{isoWeek}
 use Rattle.values.proofs.Laws.{week-range, in-week, not-in-week}
 use Rattle.values.proofs.iso.Statement.{statement}
 use Rattle.values.proofs.iso.Tie as tie
 
 iso-8601-year-and-week-number-requires : tie.Need-iso-8601-year-and-week-number-requires
-iso-8601-year-and-week-number-requires c κs = week-range _ (in-week _ (c .before .before .week .ensures) (c .before .if1 .taken))
+iso-8601-year-and-week-number-requires c κs =
+    let r = c .before .before .before .args .«record» in
+    let h = week-range r (in-week r (c .before .before .week .ensures) (c .before .if1 .taken)) in
+    (h .0, h .1, subst⁻¹ (λ (y : ℤ). r .«day_of_year» ≤ daysIn y) (toZ-ofZ w32 (r .year) (search needs)) (h .2))
 
 returns : tie.Need-returns
 returns c =

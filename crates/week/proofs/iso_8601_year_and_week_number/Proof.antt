@@ -4,7 +4,6 @@ use native.Mathlib.Omega.{arith}
 use lib.IntN.{ℤ, pos, natAbs}
 use Rattle.rules.specs.declared.IsoWeek.{IsoWeek}
 use Rattle.rules.specs.Week.{YearAndWeek, iso8601YearAndWeekNumber}
-use Rattle.rules.proofs.YearLaws.{days-from}
 use Rattle.rules.proofs.WeekLaws.{iso-original}
 use Rattle.week.specs.Inner.{Restarts}
 use Rattle.numbers.proofs.Signed.{widens, widened}
@@ -24,7 +23,7 @@ year-and-week-number-requires c κs =
     (record {
       small = c .pre .0;
       from = omega arith;
-      to = omega (arith, days-from (c .args .year));
+      to = omega arith;
       few = omega arith;
       near = omega (arith, c .fits .year .sfits);
     })

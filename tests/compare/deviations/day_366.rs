@@ -1,0 +1,25 @@
+//! 02, request 2: day 366 of a common year is InvalidTime for `j U W V G g`.
+
+use super::{Cases, Deviation};
+use crate::judge::Case;
+use crate::reading::ends_inside;
+use crate::records::leap;
+
+pub const DEVIATION: Deviation = Deviation {
+    touched: Cases {
+        what: "day 366 of a common year is read",
+        hold: |case| !leap(case.record.year) && day_366_is_read(case),
+    },
+    beside: Cases {
+        what: "day 366 of a leap year is read",
+        hold: |case| leap(case.record.year) && day_366_is_read(case),
+    },
+};
+
+fn day_366_is_read(case: &Case) -> bool {
+    let mut read = false;
+    if case.record.day_of_year == 366 {
+        ends_inside(case.format, |letter| read |= b"jUWVGg".contains(&letter));
+    }
+    read
+}
