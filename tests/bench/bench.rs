@@ -32,17 +32,22 @@ const A: &str = "sale %Y-%m-%dT%H:%M:%S.%L%z day %j (%a), module 07, coin or car
 /// Sixteen directives.
 const B: &str = "%c %D %r %A %-d %B %Y %j %U %W %s %:z %G %V %u %Z";
 const C: &str = "%F %T";
+const LITERAL: &str = "sale of the day, module seven, paid by coin or card, no refund. ";
 
 fn main() -> ExitCode {
     assert_eq!((A.len(), A.matches('%').count()), (64, 10));
-    let long = A.repeat(3);
+    assert_eq!((LITERAL.len(), LITERAL.matches('%').count()), (64, 0));
+    let [three, six, twelve] = [3, 6, 12].map(|times| A.repeat(times));
     let formats = [
         ("A: 64 bytes, ten directives", A),
         ("B: sixteen directives", B),
         ("C: %F %T", C),
+        ("A three times, 225 bytes of text", &three),
+        ("A six times, 450 bytes of text", &six),
+        ("A twelve times, 900 bytes of text", &twelve),
         ("no format", ""),
         ("one literal byte", "x"),
-        ("A three times, a text above 192 bytes", &long),
+        ("64 literal bytes", LITERAL),
     ];
     let records = sales();
     for (name, format) in formats {
@@ -51,9 +56,13 @@ fn main() -> ExitCode {
             return ExitCode::FAILURE;
         }
     }
-    println!("best of {WINDOWS} windows of {STAMPS} stamps, in ns a stamp; the mean in brackets");
-    for (name, format) in formats {
-        print_times(name, &race(format.as_bytes(), &records));
+    println!("{WINDOWS} windows of {STAMPS} stamps, in ns a stamp: the best window, the median, the mean");
+    for (at, (name, format)) in formats.into_iter().enumerate() {
+        let times = race(format.as_bytes(), &records);
+        if at == 0 {
+            print_million(&times);
+        }
+        print_times(name, &times);
     }
     let counts: Vec<i64> = records.iter().map(|record| record.to_int).collect();
     counter::print_times(&counter::race(&counts, WINDOWS));
@@ -107,26 +116,41 @@ fn same_texts(format: &[u8], records: &[FlatRecord]) -> Result<(), usize> {
     Ok(())
 }
 
-/// Nanoseconds a call.
+/// Nanoseconds a call, a window after the other.
 struct Times {
-    best: f64,
-    mean: f64,
+    windows: Vec<f64>,
 }
 
 impl Times {
     fn new() -> Self {
         Times {
-            best: f64::INFINITY,
-            mean: 0.0,
+            windows: Vec::with_capacity(WINDOWS),
         }
     }
 
     fn window(&mut self, calls: impl FnOnce()) {
         let start = Instant::now();
         calls();
-        let time = start.elapsed().as_nanos() as f64 / STAMPS as f64;
-        self.best = self.best.min(time);
-        self.mean += time / WINDOWS as f64;
+        self.windows
+            .push(start.elapsed().as_nanos() as f64 / STAMPS as f64);
+    }
+
+    fn sorted(&self) -> Vec<f64> {
+        let mut windows = self.windows.clone();
+        windows.sort_by(f64::total_cmp);
+        windows
+    }
+
+    fn best(&self) -> f64 {
+        self.sorted()[0]
+    }
+
+    fn median(&self) -> f64 {
+        self.sorted()[WINDOWS / 2]
+    }
+
+    fn mean(&self) -> f64 {
+        self.windows.iter().sum::<f64>() / WINDOWS as f64
     }
 }
 
@@ -159,13 +183,35 @@ fn race(format: &[u8], records: &[FlatRecord]) -> [Times; 3] {
     all
 }
 
+/// The measurement that the buyer asked for: all windows together.
+fn print_million([ours, plain, theirs]: &[Times; 3]) {
+    let milliseconds = |times: &Times| times.mean() * (WINDOWS * STAMPS) as f64 / 1e6;
+    println!(
+        "a million stamps of a 64-byte format with ten directives: library {:.0} ms, plain {:.0} ms, original {:.0} ms, library/plain {:.2}",
+        milliseconds(ours),
+        milliseconds(plain),
+        milliseconds(theirs),
+        ours.mean() / plain.mean()
+    );
+}
+
 fn print_times(name: &str, [ours, plain, theirs]: &[Times; 3]) {
     println!("{name}");
     for (who, times) in [("library", ours), ("plain", plain), ("original", theirs)] {
-        println!("    {who:<16} {:8.1} ({:.1})", times.best, times.mean);
+        println!(
+            "    {who:<16} {:8.1} {:8.1} {:8.1}",
+            times.best(),
+            times.median(),
+            times.mean()
+        );
     }
-    println!("    library/plain    {:8.2}", ours.best / plain.best);
-    println!("    library/original {:8.2}", ours.best / theirs.best);
+    for (who, times) in [("library/plain", plain), ("library/original", theirs)] {
+        println!(
+            "    {who:<16} {:8.2} {:8.2}",
+            ours.best() / times.best(),
+            ours.median() / times.median()
+        );
+    }
 }
 
 /// Every directive under flags and widths, and the formats that are timed.

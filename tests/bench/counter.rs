@@ -89,6 +89,11 @@ pub fn print_times([to, their_to, back, their_back]: &[Times; 4]) {
         ("and back", back),
         ("timegm", their_back),
     ] {
-        println!("    {who:<16} {:8.1} ({:.1})", times.best, times.mean);
+        println!(
+            "    {who:<16} {:8.1} {:8.1} {:8.1}",
+            times.best(),
+            times.median(),
+            times.mean()
+        );
     }
 }

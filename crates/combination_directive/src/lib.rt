@@ -2,45 +2,32 @@
 ghost use mathlib.Core.Path.{_≡_};
 ghost use mathlib.Core.Bool.{Bool};
 ghost use mathlib.Core.List.{List, [], _∷_};
-ghost use Prim.Native.Nat.{ℕ, _≤_, _<_};
+ghost use Prim.Native.Nat.{ℕ, _<_};
 ghost use lib.ListN.{length};
 ghost use Rattle.rules.specs.declared.Combination.the-variants as kind;
 ghost use Rattle.rules.specs.declared.Spec.the-variants as spec;
 ghost use Rattle.rules.specs.Ascii.{byte, ascii};
 ghost use Rattle.rules.specs.Name.{before12};
-ghost use Rattle.rules.specs.Record.{longestBuffer, allOk, hour, minute};
-ghost use Rattle.rules.specs.Writing.{yearText, dayText, combinationLength, specEvents};
+ghost use Rattle.rules.specs.Record.{allOk, hour, minute};
+ghost use Rattle.rules.specs.Writing.{yearText, combinationLength, specEvents};
 ghost use Rattle.text.specs.Ran.{Ran};
 ghost use Rattle.text.specs.Room.{Room};
-ghost use Rattle.printing.specs.Plain.{plainPiece};
 ghost use Rattle.combination_directive.specs.Combined.{Combined, clockText};
 use names::calendar::day_three;
 use names::calendar::month_three;
-use numbers::TwoDigits;
+use numbers::spaced_digits;
 use numbers::two_digits;
 use printing::put_decimal;
 use printing::put_year;
 use printing::write_padding;
 use printing::year_length;
+use printing::year_width;
 use rules::Combination;
 use rules::Flag;
 use rules::Piece;
 use rules::Record;
 use text::judged;
 use text::put;
-use values::year_width;
-
-// The day of the month in two places, with a space for no tens.
-fn day_digits(day: u8) -> TwoDigits
-    requires { ⌜ day < 100 ⌝ }
-    ensures { λ r. ⌜ r .0 ∷ r .1 ∷ [] ≡ dayText day ⌝ }
-{
-    if day < 10 {
-        TwoDigits(b' ', b'0' + day)
-    } else {
-        two_digits(day)
-    }
-}
 
 // HH:MM:SS.
 fn clock_text(hour: u8, minute: u8, second: u8) -> [u8; 8]
@@ -53,7 +40,7 @@ fn clock_text(hour: u8, minute: u8, second: u8) -> [u8; 8]
     [h.0, h.1, b':', m.0, m.1, b':', s.0, s.1]
 }
 
-fn date_time(out: &mut [u8], at: usize, room: usize, record: Record, upper: bool) -> usize
+pub fn date_time(out: &mut [u8], at: usize, room: usize, record: Record, upper: bool) -> usize
     requires { ⌜ Room (now out) room ⌝ }
     ensures { λ r. ⌜ Combined room kind.CombinationDateTime upper «record» (now (out .entry)) at (now (out .exit)) r ⌝ }
 {
@@ -63,7 +50,7 @@ fn date_time(out: &mut [u8], at: usize, room: usize, record: Record, upper: bool
     }
     let week_day_name = day_three(record.day_of_week, upper);
     let month_name = month_three(record.month, upper);
-    let day = day_digits(record.day);
+    let day = spaced_digits(record.day);
     let clock = clock_text(record.hour, record.minute, record.second);
     let text = [
         week_day_name.0,
@@ -88,10 +75,10 @@ fn date_time(out: &mut [u8], at: usize, room: usize, record: Record, upper: bool
         b' ',
     ];
     let next = put(out, at, room, &text);
-    put_year(out, next, room, record.year)
+    put_year(out, next, room, record.year as i64)
 }
 
-fn date(out: &mut [u8], at: usize, room: usize, record: Record) -> usize
+pub fn date(out: &mut [u8], at: usize, room: usize, record: Record) -> usize
     requires { ⌜ Room (now out) room ⌝ }
     ensures { λ r. ⌜ ((upper : Bool) → Combined room kind.CombinationDate upper «record» (now (out .entry)) at (now (out .exit)) r) ⌝ }
 {
@@ -106,7 +93,7 @@ fn date(out: &mut [u8], at: usize, room: usize, record: Record) -> usize
     put(out, at, room, &text)
 }
 
-fn iso8601(out: &mut [u8], at: usize, room: usize, record: Record) -> usize
+pub fn iso8601(out: &mut [u8], at: usize, room: usize, record: Record) -> usize
     requires { ⌜ Room (now out) room ⌝ }
     ensures { λ r. ⌜ ((upper : Bool) → Combined room kind.CombinationIso8601 upper «record» (now (out .entry)) at (now (out .exit)) r) ⌝ }
 {
@@ -117,12 +104,12 @@ fn iso8601(out: &mut [u8], at: usize, room: usize, record: Record) -> usize
     let month = two_digits(record.month);
     let day = two_digits(record.day);
     let text = [b'-', month.0, month.1, b'-', day.0, day.1];
-    let next = put_year(out, at, room, record.year);
+    let next = put_year(out, at, room, record.year as i64);
     put(out, next, room, &text)
 }
 
 // Its year has width 4 for negatives too.
-fn vms_date(out: &mut [u8], at: usize, room: usize, record: Record) -> usize
+pub fn vms_date(out: &mut [u8], at: usize, room: usize, record: Record) -> usize
     requires { ⌜ Room (now out) room ⌝ }
     ensures { λ r. ⌜ ((upper : Bool) → Combined room kind.CombinationVmsDate upper «record» (now (out .entry)) at (now (out .exit)) r) ⌝ }
 {
@@ -130,7 +117,7 @@ fn vms_date(out: &mut [u8], at: usize, room: usize, record: Record) -> usize
     if verdict != 0 {
         return judged(at, verdict);
     }
-    let day = day_digits(record.day);
+    let day = spaced_digits(record.day);
     let month_name = month_three(record.month, true);
     let text = [
         day.0,
@@ -152,7 +139,7 @@ fn half(hour: u8) -> u8
     if hour < 12 { b'A' } else { b'P' }
 }
 
-fn time12h(out: &mut [u8], at: usize, room: usize, record: Record) -> usize
+pub fn time12h(out: &mut [u8], at: usize, room: usize, record: Record) -> usize
     requires { ⌜ Room (now out) room ⌝ }
     ensures { λ r. ⌜ ((upper : Bool) → Combined room kind.CombinationTime12h upper «record» (now (out .entry)) at (now (out .exit)) r) ⌝ }
 {
@@ -184,7 +171,7 @@ fn hour_and_minute(record: Record) -> bool
     fields::hour(record) && fields::minute(record)
 }
 
-fn hour_minute24h(out: &mut [u8], at: usize, room: usize, record: Record) -> usize
+pub fn hour_minute24h(out: &mut [u8], at: usize, room: usize, record: Record) -> usize
     requires { ⌜ Room (now out) room ⌝ }
     ensures { λ r. ⌜ ((upper : Bool) → Combined room kind.CombinationHourMinute24h upper «record» (now (out .entry)) at (now (out .exit)) r) ⌝ }
 {
@@ -198,7 +185,7 @@ fn hour_minute24h(out: &mut [u8], at: usize, room: usize, record: Record) -> usi
     put(out, at, room, &text)
 }
 
-fn time24h(out: &mut [u8], at: usize, room: usize, record: Record) -> usize
+pub fn time24h(out: &mut [u8], at: usize, room: usize, record: Record) -> usize
     requires { ⌜ Room (now out) room ⌝ }
     ensures { λ r. ⌜ ((upper : Bool) → Combined room kind.CombinationTime24h upper «record» (now (out .entry)) at (now (out .exit)) r) ⌝ }
 {
@@ -263,7 +250,7 @@ pub fn combination(
     combination: Combination,
     record: Record,
 ) -> usize
-    requires { ⌜ Room (now out) room × (longestBuffer ≤ limit) ⌝ }
+    requires { ⌜ Room (now out) room ⌝ }
     ensures { λ r. ⌜ ((zone : List ℕ) → Ran limit room (specEvents (spec.Combination combination) piece «record» zone) (now (out .entry)) at (now (out .exit)) r) ⌝ }
 {
     let flags = piece.flags;
@@ -271,20 +258,4 @@ pub fn combination(
     let length = combination_length(combination, record.year);
     let next = write_padding(out, at, room, limit, piece, length);
     combined(out, next, room, combination, record, upper)
-}
-
-// The pad of no bytes stays: it refuses a place beyond the room before the fields are checked.
-pub fn plain_combination(
-    out: &mut [u8],
-    at: usize,
-    room: usize,
-    limit: usize,
-    combination: Combination,
-    record: Record,
-) -> usize
-    requires { ⌜ Room (now out) room × (longestBuffer ≤ limit) ⌝ }
-    ensures { λ r. ⌜ ((zone : List ℕ) → Ran limit room (specEvents (spec.Combination combination) (plainPiece (spec.Combination combination)) «record» zone) (now (out .entry)) at (now (out .exit)) r) ⌝ }
-{
-    let next = text::pad(out, at, room, limit, b' ', 0);
-    combined(out, next, room, combination, record, false)
 }

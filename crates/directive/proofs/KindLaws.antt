@@ -10,5 +10,5 @@ use Rattle.text.specs.Ran.{Ran}
 use Rattle.text.proofs.RanLaws.{same-events}
 
 -- a run of the events of the spec that a match found
-pub by-kind : {limit room : ℕ} {s k : Spec} (piece : Spec → Piece) (r : Record) (zone : List ℕ) {l l′ : List ℕ} {n n′ : ℕ} → s ≡ k → Ran limit room (specEvents k (piece k) r zone) l n l′ n′ → Ran limit room (specEvents s (piece s) r zone) l n l′ n′
-by-kind piece r zone e w = same-events (ap (λ (x : Spec). specEvents x (piece x) r zone) (sym e)) w
+pub by-kind : {limit room : ℕ} {s k : Spec} (p : Piece) (r : Record) (zone : List ℕ) {l l′ : List ℕ} {n n′ : ℕ} → s ≡ k → Ran limit room (specEvents k p r zone) l n l′ n′ → Ran limit room (specEvents s p r zone) l n l′ n′
+by-kind p r zone e w = same-events (ap (λ (x : Spec). specEvents x p r zone) (sym e)) w

@@ -1,52 +1,21 @@
 // Ports `Piece::fmt` of mod.rs: a directive, by its kind.
 ghost use Prim.Native.Nat.{_≤_};
 ghost use Rattle.rules.specs.Record.{longestBuffer};
-ghost use Rattle.rules.specs.Writing.{specEvents, eventsOf};
+ghost use Rattle.rules.specs.Writing.{eventsOf};
 ghost use Rattle.text.specs.Ran.{Ran};
 ghost use Rattle.text.specs.Room.{Room};
-ghost use Rattle.printing.specs.Plain.{plainPiece};
 use combination_directive::combination;
-use combination_directive::plain_combination;
 use name_directive::fixed;
 use name_directive::name;
-use name_directive::plain_fixed;
-use name_directive::plain_name;
-use name_directive::plain_zone_name;
 use name_directive::zone_name;
 use number_directive::fraction;
 use number_directive::fraction_digits;
 use number_directive::number;
-use number_directive::plain_number;
 use offset_directive::offset;
-use offset_directive::plain_offset;
 use printing::width_or;
 use rules::Piece;
 use rules::Record;
 use rules::Spec;
-
-// A directive with no flag, no width and the default padding.
-pub fn plain_directive(
-    out: &mut [u8],
-    at: usize,
-    room: usize,
-    limit: usize,
-    spec: Spec,
-    record: Record,
-    zone: &[u8],
-) -> usize
-    requires { ⌜ Room (now out) room × (longestBuffer ≤ limit) ⌝ }
-    ensures { λ r. ⌜ Ran limit room (specEvents spec (plainPiece spec) «record» (now (zone .entry))) (now (out .entry)) at (now (out .exit)) r ⌝ }
-{
-    match spec {
-        Spec::Number(n) => plain_number(out, at, room, n, record),
-        Spec::Name(n) => plain_name(out, at, room, limit, n, record),
-        Spec::Fraction(f) => fraction(out, at, room, limit, fraction_digits(f), record),
-        Spec::Offset(o) => plain_offset(out, at, room, limit, o, record),
-        Spec::TimeZoneName => plain_zone_name(out, at, room, limit, zone),
-        Spec::Fixed(f) => plain_fixed(out, at, room, limit, f),
-        Spec::Combination(c) => plain_combination(out, at, room, limit, c, record),
-    }
-}
 
 pub fn directive(
     out: &mut [u8],

@@ -33,7 +33,7 @@ fn string_padding(
     piece: Piece,
     length: usize,
 ) -> usize
-    requires { ⌜ Room (now out) room × (longestBuffer ≤ limit) ⌝ }
+    requires { ⌜ Room (now out) room ⌝ }
     ensures { λ r. ⌜ Ran limit room (map event.write (padding piece length)) (now (out .entry)) at (now (out .exit)) r ⌝ }
 {
     let flags = piece.flags;
@@ -129,7 +129,7 @@ pub fn name(
     name: Name,
     record: Record,
 ) -> usize
-    requires { ⌜ Room (now out) room × (longestBuffer ≤ limit) ⌝ }
+    requires { ⌜ Room (now out) room ⌝ }
     ensures { λ r. ⌜ ((zone : List ℕ) → Ran limit room (specEvents (spec.Name name) piece «record» zone) (now (out .entry)) at (now (out .exit)) r) ⌝ }
 {
     let verdict = fields::verdict(in_range(name, record));
@@ -190,8 +190,8 @@ fn copy_cased(out: &mut [u8], at: usize, src: &[u8], lowered: bool)
     }
 }
 
-// What fits of a text that doesn't is written by a call of itself, as in `text`.
-fn cased_short(out: &mut [u8], at: usize, room: usize, src: &[u8], lowered: bool) -> usize
+// Each byte in its case. What fits of a text that doesn't is written by a call of itself, as in `text`.
+fn put_cased(out: &mut [u8], at: usize, room: usize, src: &[u8], lowered: bool) -> usize
     requires { ⌜ Room (now out) room ⌝ }
     ensures { λ r. ⌜ ((limit : ℕ) → Ran limit room (event.write (event.put (map (byteIn lowered) (now (src .entry)))) ∷ []) (now (out .entry)) at (now (out .exit)) r) ⌝ }
 {
@@ -202,22 +202,10 @@ fn cased_short(out: &mut [u8], at: usize, room: usize, src: &[u8], lowered: bool
     }
     if at < out.len() {
         let left = out.len() - at;
-        let end = cased_short(out, at, room, &src[..left], lowered);
+        let end = put_cased(out, at, room, &src[..left], lowered);
         return text::missed(at, count, room);
     }
     text::missed(at, count, room)
-}
-
-fn put_cased(out: &mut [u8], at: usize, room: usize, src: &[u8], lowered: bool) -> usize
-    requires { ⌜ Room (now out) room ⌝ }
-    ensures { λ r. ⌜ ((limit : ℕ) → Ran limit room (event.write (event.put (map (byteIn lowered) (now (src .entry)))) ∷ []) (now (out .entry)) at (now (out .exit)) r) ⌝ }
-{
-    let count = src.len();
-    if text::fits(at, count, out.len()) {
-        copy_cased(out, at, src, lowered);
-        return at + count;
-    }
-    cased_short(out, at, room, src, lowered)
 }
 
 // `#` lowers and wins over `^`, which raises.
@@ -242,7 +230,7 @@ pub fn zone_name(
     piece: Piece,
     zone: &[u8],
 ) -> usize
-    requires { ⌜ Room (now out) room × (longestBuffer ≤ limit) ⌝ }
+    requires { ⌜ Room (now out) room ⌝ }
     ensures { λ r. ⌜ ((«record» : declared.Record) → Ran limit room (specEvents spec.TimeZoneName piece «record» (now (zone .entry))) (now (out .entry)) at (now (out .exit)) r) ⌝ }
 {
     let verdict = fields::verdict(fields::time_zone(zone));
@@ -278,17 +266,6 @@ fn fixed_byte(fixed: Fixed) -> u8
     }
 }
 
-fn put_byte(out: &mut [u8], at: usize, room: usize, byte: u8) -> usize
-    requires { ⌜ Room (now out) room ⌝ }
-    ensures { λ r. ⌜ ((limit : ℕ) → Ran limit room (event.write (event.put (byte ∷ [])) ∷ []) (now (out .entry)) at (now (out .exit)) r) ⌝ }
-{
-    if at < out.len() {
-        out[at] = byte;
-        return at + 1;
-    }
-    text::missed(at, 1, room)
-}
-
 pub fn fixed(
     out: &mut [u8],
     at: usize,
@@ -297,16 +274,16 @@ pub fn fixed(
     piece: Piece,
     fixed: Fixed,
 ) -> usize
-    requires { ⌜ Room (now out) room × (longestBuffer ≤ limit) ⌝ }
+    requires { ⌜ Room (now out) room ⌝ }
     ensures { λ r. ⌜ ((«record» : declared.Record) (zone : List ℕ) → Ran limit room (specEvents (spec.Fixed fixed) piece «record» zone) (now (out .entry)) at (now (out .exit)) r) ⌝ }
 {
     let next = string_padding(out, at, room, limit, piece, 1);
-    put_byte(out, next, room, fixed_byte(fixed))
+    text::put_byte(out, next, room, fixed_byte(fixed))
 }
 
 pub fn plain_fixed(out: &mut [u8], at: usize, room: usize, limit: usize, fixed: Fixed) -> usize
     requires { ⌜ Room (now out) room × (longestBuffer ≤ limit) ⌝ }
     ensures { λ r. ⌜ ((«record» : declared.Record) (zone : List ℕ) → Ran limit room (specEvents (spec.Fixed fixed) (plainPiece (spec.Fixed fixed)) «record» zone) (now (out .entry)) at (now (out .exit)) r) ⌝ }
 {
-    put_byte(out, at, room, fixed_byte(fixed))
+    text::put_byte(out, at, room, fixed_byte(fixed))
 }

@@ -1,3 +1,2 @@
 pub mod FractionLaws
 pub mod NumberLaws
-pub mod QuickLaws

@@ -5,6 +5,9 @@ use mathlib.Core.List.{List, [], _∷_, map}
 use Prim.Native.Nat.{ℕ, _-_, _≤_, _<_, min}
 use native.Mathlib.Omega.{arith}
 use lib.IntN.{ℤ}
+use mir.Syntax.{w64}
+use mir.Val.{SFits, ofZ, toZ}
+use mir.ValLaws.{toZ-ofZ}
 use Rattle.rules.specs.declared.Number.{Number}
 use Rattle.rules.specs.declared.Padding.the-variants.{Left, Spaces, Zeros}
 use Rattle.rules.specs.declared.Piece.{Piece}
@@ -53,6 +56,10 @@ module _ (fill : Fill) (width : ℕ) (v : ℤ) where
   pub plain-decimal : {limit room : ℕ} {l l′ : List ℕ} {n r : ℕ} → Ran limit room (write (put (filled zeros 1 v)) ∷ []) l n l′ r → Ran limit room (map write (numberWrites true fill width v)) l n l′ r
   unfolding numberWrites
   plain-decimal w = said (filled-plain zeros 1 v (length-decimal-from v)) w
+
+-- what is read back of a number is that number
+pub as-read : {limit room : ℕ} (fill : Fill) (width : ℕ) (v : ℤ) → SFits w64 v → {l l′ : List ℕ} {n r : ℕ} → Ran limit room (write (put (filled fill width (toZ w64 (ofZ w64 v)))) ∷ []) l n l′ r → Ran limit room (write (put (filled fill width v)) ∷ []) l n l′ r
+as-read fill width v f w = said (ap (filled fill width) (toZ-ofZ w64 v f)) w
 
 -- ## The directive
 

@@ -1,18 +1,16 @@
 // Ports `format_num_zeros`, `format_num_spaces`, `pad_width` and `format_nanoseconds` of mod.rs, and the arms of its `Piece::fmt` that call them.
 ghost use mathlib.Core.Path.{_≡_};
 ghost use mathlib.Core.Bool.{false};
-ghost use mathlib.Core.List.{List, [], _∷_, map};
+ghost use mathlib.Core.List.{List, _∷_, map};
 ghost use Prim.Native.Nat.{ℕ, _≤_};
 ghost use Rattle.rules.specs.declared.Fraction as declared;
 ghost use Rattle.rules.specs.declared.Spec.the-variants as spec;
 ghost use Rattle.rules.specs.Record.{longestBuffer};
 ghost use Rattle.rules.specs.Event as event;
-ghost use Rattle.rules.specs.Decimal.{filled};
 ghost use Rattle.rules.specs.Writing.{numberWrites, fractionDigits, fractionWrites, verdictOf, specEvents};
 ghost use Rattle.text.specs.Ran.{Ran};
 ghost use Rattle.text.specs.Room.{Room};
 ghost use Rattle.printing.specs.FillWith.{fillWith};
-ghost use Rattle.printing.specs.Plain.{plainPiece};
 ghost use Rattle.values.specs.Value.{fillBy};
 use rules::Flag;
 use rules::Fraction;
@@ -79,32 +77,6 @@ pub fn number(
     let width = printing::width_or(given, value.width);
     let zeros = fills_zeros(padding, value.space);
     format_num(out, at, room, limit, value.number, width, zeros)
-}
-
-// `put_decimal`, with two and four digits at once where the number has no more.
-fn put_quick(out: &mut [u8], at: usize, room: usize, v: i64, width: usize, zeros: bool) -> usize
-    requires { ⌜ Room (now out) room ⌝ }
-    ensures { λ r. ⌜ ((limit : ℕ) → Ran limit room (event.write (event.put (filled (fillWith zeros) width v)) ∷ []) (now (out .entry)) at (now (out .exit)) r) ⌝ }
-{
-    if zeros && width == 2 && 0 <= v && v < 100 {
-        return text::put_two(out, at, room, v as u8);
-    }
-    if zeros && width == 4 && 0 <= v && v < 10000 {
-        return printing::put_four(out, at, room, v as u32);
-    }
-    printing::put_decimal(out, at, room, v, width, zeros)
-}
-
-pub fn plain_number(out: &mut [u8], at: usize, room: usize, number: Number, record: Record) -> usize
-    requires { ⌜ Room (now out) room ⌝ }
-    ensures { λ r. ⌜ ((limit : ℕ) (zone : List ℕ) → longestBuffer ≤ limit → Ran limit room (specEvents (spec.Number number) (plainPiece (spec.Number number)) «record» zone) (now (out .entry)) at (now (out .exit)) r) ⌝ }
-{
-    let value = values::value_of(number, record);
-    let verdict = fields::verdict(value.ok);
-    if verdict != 0 {
-        return text::judged(at, verdict);
-    }
-    put_quick(out, at, room, value.number, value.width, !value.space)
 }
 
 pub fn fraction_digits(fraction: Fraction) -> usize

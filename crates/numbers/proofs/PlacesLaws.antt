@@ -82,3 +82,12 @@ two-more {out₀} {out} {at} {left} {n} {b₁} {b₂} {end} h e₁ e₂ w =
     subst₂ (λ (l m : ℕ). Written out₀ (set (set out (at + left - 1) b₁) (at + left - 2) b₂) at l m end) s t
     (one-more (omega arith) (omega arith) (e₂ ∙ ap (λ (d : ℕ). 48 + d) (tens-of n))
     (one-more (omega arith) refl (e₁ ∙ ap (λ (d : ℕ). 48 + d) (ones-of n)) w))
+
+-- ## A pair as one number, the tens in its lower byte
+
+module _ {v w : ℕ} (h : v < 100) (e : w ≡ 48 + v / 10 + 256 * (48 + v % 10)) where
+  pub tens-byte : w % 256 ≡ 48 + v / 10
+  tens-byte = omega arith
+
+  pub ones-byte : w / 256 ≡ 48 + v % 10
+  ones-byte = omega arith

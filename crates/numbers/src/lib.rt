@@ -1,11 +1,14 @@
 // Ports what core::fmt and the integers' own methods do for mod.rs: numbers as text, magnitudes, floor quotients.
+mod pairs;
+
 ghost use mathlib.Core.Path.{_≡_};
 ghost use mathlib.Core.List.{[], _∷_, _++_};
 ghost use Prim.Native.Nat.{ℕ, _+_, _-_, _*_, _/_, _%_, _^_, _<_, _≤_};
-ghost use lib.IntN.{natAbs};
+ghost use lib.IntN.{pos, natAbs};
 ghost use lib.ListN.{length, take, drop, replicate};
 ghost use lib.Signed.{mag};
-ghost use Rattle.rules.specs.Decimal.{digitCount, places, two, decimalText, floorDiv, floorMod};
+ghost use Rattle.rules.specs.Decimal.{digitCount, places, two, decimalText, spaces, filled, floorDiv, floorMod};
+use pairs::pair;
 
 // n of n, and of -(n + 1).
 pub fn magnitude(x: i64) -> u64
@@ -76,6 +79,18 @@ pub fn two_digits(v: u8) -> TwoDigits
     TwoDigits(tens(v), ones(v))
 }
 
+// The same with a space for no tens.
+pub fn spaced_digits(v: u8) -> TwoDigits
+    requires { ⌜ v < 100 ⌝ }
+    ensures { λ r. ⌜ r .0 ∷ r .1 ∷ [] ≡ filled spaces 2 (pos v) ⌝ }
+{
+    if v < 10 {
+        TwoDigits(b' ', b'0' + v)
+    } else {
+        two_digits(v)
+    }
+}
+
 pub fn power(k: usize) -> u32
     requires { ⌜ k ≤ 9 ⌝ }
     ensures { λ r. ⌜ r ≡ 10 ^ k ⌝ }
@@ -134,9 +149,9 @@ pub fn write_places(out: &mut [u8], at: usize, count: usize, v: u64)
     let mut n = v;
     let mut left = count;
     while left >= 2 {
-        let pair = (n % 100) as u8;
-        out[at + left - 1] = ones(pair);
-        out[at + left - 2] = tens(pair);
+        let word = pair((n % 100) as u8);
+        out[at + left - 1] = (word / 256) as u8;
+        out[at + left - 2] = (word % 256) as u8;
         left -= 2;
         n = n / 100;
     }

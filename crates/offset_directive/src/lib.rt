@@ -49,7 +49,7 @@ fn write_sign_and_pad(
     negative: bool,
     count: usize,
 ) -> usize
-    requires { ⌜ Room (now out) room × (longestBuffer ≤ limit) ⌝ }
+    requires { ⌜ Room (now out) room ⌝ }
     ensures { λ r. ⌜ Ran limit room (map event.write (signAndPad (fillWith (not spaces)) negative count)) (now (out .entry)) at (now (out .exit)) r ⌝ }
 {
     if spaces {
@@ -70,7 +70,7 @@ fn write_offset_hour(
     parts: OffsetParts,
     length: usize,
 ) -> usize
-    requires { ⌜ Room (now out) room × (longestBuffer ≤ limit) × Small parts × (1 ≤ length) ⌝ }
+    requires { ⌜ Room (now out) room × Small parts × (1 ≤ length) ⌝ }
     ensures { λ r. ⌜ Ran limit room (map event.write (signAndPad (fillWith (not spaces)) (parts .minus) (width - length + parts .extra)) ++ (event.write (event.put (digits (parts .hours))) ∷ [])) (now (out .entry)) at (now (out .exit)) r ⌝ }
 {
     let count = printing::saturating_sub(width, length) + parts.extra;
@@ -88,7 +88,7 @@ fn write_offset_hh(
     spaces: bool,
     parts: OffsetParts,
 ) -> usize
-    requires { ⌜ Room (now out) room × (longestBuffer ≤ limit) × Small parts ⌝ }
+    requires { ⌜ Room (now out) room × Small parts ⌝ }
     ensures { λ r. ⌜ Ran limit room (map event.write (partsWrites hh (fillWith (not spaces)) width parts)) (now (out .entry)) at (now (out .exit)) r ⌝ }
 {
     write_offset_hour(out, at, room, limit, width, spaces, parts, 3)
@@ -103,7 +103,7 @@ fn write_offset_hhmm(
     spaces: bool,
     parts: OffsetParts,
 ) -> usize
-    requires { ⌜ Room (now out) room × (longestBuffer ≤ limit) × Small parts ⌝ }
+    requires { ⌜ Room (now out) room × Small parts ⌝ }
     ensures { λ r. ⌜ Ran limit room (map event.write (partsWrites hhmm (fillWith (not spaces)) width parts)) (now (out .entry)) at (now (out .exit)) r ⌝ }
 {
     let next = write_offset_hour(out, at, room, limit, width, spaces, parts, 5);
@@ -119,7 +119,7 @@ fn write_offset_hh_mm(
     spaces: bool,
     parts: OffsetParts,
 ) -> usize
-    requires { ⌜ Room (now out) room × (longestBuffer ≤ limit) × Small parts ⌝ }
+    requires { ⌜ Room (now out) room × Small parts ⌝ }
     ensures { λ r. ⌜ Ran limit room (map event.write (partsWrites hh:mm (fillWith (not spaces)) width parts)) (now (out .entry)) at (now (out .exit)) r ⌝ }
 {
     let next = write_offset_hour(out, at, room, limit, width, spaces, parts, 6);
@@ -136,7 +136,7 @@ fn write_offset_hh_mm_ss(
     spaces: bool,
     parts: OffsetParts,
 ) -> usize
-    requires { ⌜ Room (now out) room × (longestBuffer ≤ limit) × Small parts ⌝ }
+    requires { ⌜ Room (now out) room × Small parts ⌝ }
     ensures { λ r. ⌜ Ran limit room (map event.write (partsWrites hh:mm:ss (fillWith (not spaces)) width parts)) (now (out .entry)) at (now (out .exit)) r ⌝ }
 {
     let next = write_offset_hour(out, at, room, limit, width, spaces, parts, 9);
@@ -161,7 +161,7 @@ fn write_long(
     parts: OffsetParts,
     length: usize,
 ) -> usize
-    requires { ⌜ Room (now out) room × (longestBuffer ≤ limit) × Small parts ⌝ }
+    requires { ⌜ Room (now out) room × Small parts ⌝ }
     ensures { λ r. ⌜ ((form : Form) → length ≡ lengthOfForm form → Ran limit room (map event.write (partsWrites form (fillWith (not spaces)) width parts)) (now (out .entry)) at (now (out .exit)) r) ⌝ }
 {
     match length {
@@ -248,7 +248,7 @@ fn zone_offset(
     is_utc: bool,
     utc_offset: i32,
 ) -> usize
-    requires { ⌜ Room (now out) room × (longestBuffer ≤ limit) ⌝ }
+    requires { ⌜ Room (now out) room ⌝ }
     ensures { λ r. ⌜ Ran limit room (map event.write (offsetWrites (formOf offset «utc_offset») (fillWith (not spaces)) width (minus left «is_utc» «utc_offset») «utc_offset»)) (now (out .entry)) at (now (out .exit)) r ⌝ }
 {
     let parts = offset::offset_parts(utc_offset, is_utc, left);
@@ -282,7 +282,7 @@ pub fn offset(
     offset: Offset,
     record: Record,
 ) -> usize
-    requires { ⌜ Room (now out) room × (longestBuffer ≤ limit) ⌝ }
+    requires { ⌜ Room (now out) room ⌝ }
     ensures { λ r. ⌜ ((zone : List ℕ) → Ran limit room (specEvents (spec.Offset offset) piece «record» zone) (now (out .entry)) at (now (out .exit)) r) ⌝ }
 {
     let given = piece.width;

@@ -1,3 +1,3 @@
 pub mod FilledLaws
-pub mod SignLaws
+pub mod YearLaws
 pub mod WriteLaws

@@ -1,12 +1,11 @@
 // Ports what core::fmt writes for mod.rs (`{:0width$}` and `{: >width$}`), `write_padding` and `year_width` of mod.rs.
 ghost use mathlib.Core.Path.{_≡_};
 ghost use mathlib.Core.List.{[], _∷_};
-ghost use Prim.Native.Nat.{ℕ, _-_, _≤_, _<_};
-ghost use lib.ListN.{length, replicate};
-ghost use Rattle.rules.specs.Record.{longestBuffer};
+ghost use Prim.Native.Nat.{ℕ, _-_, _<_};
+ghost use lib.ListN.{length};
 ghost use Rattle.rules.specs.Event as event;
 ghost use Rattle.rules.specs.Decimal.{places, zeros, fillByte, filled};
-ghost use Rattle.rules.specs.Writing.{widthOr, padByte, padTo, yearText};
+ghost use Rattle.rules.specs.Writing.{widthOr, padByte, padTo, yearWidth, yearText};
 ghost use Rattle.text.specs.Ran.{Ran};
 ghost use Rattle.text.specs.Room.{Room};
 ghost use Rattle.printing.specs.FillWith.{fillWith};
@@ -39,17 +38,6 @@ fn pad_byte(padding: Padding) -> u8
     }
 }
 
-// One byte, so many times. A run that has its place in the slice is a pad that no limit refuses.
-fn put_run(out: &mut [u8], at: usize, room: usize, byte: u8, count: usize) -> usize
-    requires { ⌜ Room (now out) room ⌝ }
-    ensures { λ r. ⌜ ((limit : ℕ) → Ran limit room (event.write (event.put (replicate count byte)) ∷ []) (now (out .entry)) at (now (out .exit)) r) ⌝ }
-{
-    if text::fits(at, count, out.len()) {
-        return text::pad(out, at, room, rules::LONGEST_BUFFER, byte, count);
-    }
-    text::run_short(out, at, room, byte, count)
-}
-
 // Few bytes that were just written, one by one: a copy in greater pieces would wait for them.
 fn put_few(out: &mut [u8], at: usize, room: usize, src: &[u8]) -> usize
     requires { ⌜ Room (now out) room ⌝ }
@@ -76,7 +64,14 @@ pub fn fill_byte(zeros: bool) -> u8
 
 // The decimal text of v behind spaces, or with zeros after its sign. The printer is called here alone: a compiler then takes it in, and its
 // bytes are copied nowhere on the way.
-fn put_text(out: &mut [u8], at: usize, room: usize, v: i64, width: usize, zeros: bool) -> usize
+pub fn put_decimal(
+    out: &mut [u8],
+    at: usize,
+    room: usize,
+    v: i64,
+    width: usize,
+    zeros: bool,
+) -> usize
     requires { ⌜ Room (now out) room ⌝ }
     ensures { λ r. ⌜ ((limit : ℕ) → Ran limit room (event.write (event.put (filled (fillWith zeros) width v)) ∷ []) (now (out .entry)) at (now (out .exit)) r) ⌝ }
 {
@@ -89,32 +84,11 @@ fn put_text(out: &mut [u8], at: usize, room: usize, v: i64, width: usize, zeros:
     let fill = width - count;
     if zeros && v < 0 {
         let next = text::put(out, at, room, b"-");
-        let first = put_run(out, next, room, b'0', fill);
+        let first = text::run_short(out, next, room, b'0', fill);
         return put_few(out, first, room, &bytes[1..count]);
     }
-    let first = put_run(out, at, room, fill_byte(zeros), fill);
+    let first = text::run_short(out, at, room, fill_byte(zeros), fill);
     put_few(out, first, room, &bytes[..count])
-}
-
-// Two, three or four digits with no text made first, where the number has no more.
-pub fn put_decimal(
-    out: &mut [u8],
-    at: usize,
-    room: usize,
-    v: i64,
-    width: usize,
-    zeros: bool,
-) -> usize
-    requires { ⌜ Room (now out) room ⌝ }
-    ensures { λ r. ⌜ ((limit : ℕ) → Ran limit room (event.write (event.put (filled (fillWith zeros) width v)) ∷ []) (now (out .entry)) at (now (out .exit)) r) ⌝ }
-{
-    if zeros && 2 <= width && width <= 4 && 0 <= v {
-        let size = numbers::unsigned_abs64(v);
-        if size < numbers::power(width) as u64 {
-            return text::put_places(out, at, room, width, size);
-        }
-    }
-    put_text(out, at, room, v, width, zeros)
 }
 
 // Four digits, with one test of the room.
@@ -134,18 +108,20 @@ pub fn put_four(out: &mut [u8], at: usize, room: usize, v: u32) -> usize
     text::places_short(out, at, room, 4, v as u64)
 }
 
-pub fn put_year(out: &mut [u8], at: usize, room: usize, year: i32) -> usize
+pub fn year_width(year: i64) -> usize
+    ensures { λ r. ⌜ r ≡ yearWidth year ⌝ }
+{
+    if year < 0 { 5 } else { 4 }
+}
+
+pub fn put_year(out: &mut [u8], at: usize, room: usize, year: i64) -> usize
     requires { ⌜ Room (now out) room ⌝ }
     ensures { λ r. ⌜ ((limit : ℕ) → Ran limit room (event.write (event.put (yearText year)) ∷ []) (now (out .entry)) at (now (out .exit)) r) ⌝ }
 {
-    let size = numbers::unsigned_abs(year);
-    if year < 0 {
-        return put_text(out, at, room, year as i64, 5, true);
+    if 0 <= year && year < 10000 {
+        return put_four(out, at, room, year as u32);
     }
-    if size < 10000 {
-        return put_four(out, at, room, size);
-    }
-    put_text(out, at, room, year as i64, 4, true)
+    put_decimal(out, at, room, year, year_width(year), true)
 }
 
 // How many bytes a year takes that is written with zeros to at least so many. The printer counts, and writes nowhere: a count by comparisons
@@ -154,7 +130,7 @@ pub fn year_length(year: i32, least: usize) -> usize
     ensures { λ r. ⌜ r ≡ length (filled zeros least year) ⌝ }
 {
     let mut none = [0u8; 0];
-    let length = put_text(&mut none, 0, rules::LONGEST_BUFFER, year as i64, 0, true);
+    let length = put_decimal(&mut none, 0, rules::LONGEST_BUFFER, year as i64, 0, true);
     if length < least { least } else { length }
 }
 
@@ -168,7 +144,7 @@ pub fn put_padding(
     width: usize,
     length: usize,
 ) -> usize
-    requires { ⌜ Room (now out) room × (longestBuffer ≤ limit) ⌝ }
+    requires { ⌜ Room (now out) room ⌝ }
     ensures { λ r. ⌜ Ran limit room (event.write (event.pad byte (width - length)) ∷ []) (now (out .entry)) at (now (out .exit)) r ⌝ }
 {
     text::pad(out, at, room, limit, byte, saturating_sub(width, length))
@@ -182,7 +158,7 @@ pub fn write_padding(
     piece: Piece,
     length: usize,
 ) -> usize
-    requires { ⌜ Room (now out) room × (longestBuffer ≤ limit) ⌝ }
+    requires { ⌜ Room (now out) room ⌝ }
     ensures { λ r. ⌜ Ran limit room (event.write (padTo piece length) ∷ []) (now (out .entry)) at (now (out .exit)) r ⌝ }
 {
     let width = piece.width;

@@ -1,6 +1,6 @@
 -- The outcomes of a turn, each by the tests that lead to it, and what the parser makes of them at a position.
-use mathlib.Core.Path.{_≡_, refl, sym, ap, _∙_}
-use mathlib.Core.Bool.{Bool, true, false, cond, false≢true}
+use mathlib.Core.Path.{_≡_, refl, _∙_}
+use mathlib.Core.Bool.{Bool, true, false, cond}
 use mathlib.Core.List.{List, _∷_}
 use Prim.Native.Nat.{ℕ, _+_, _-_, _≤_, _<_, min}
 use native.Mathlib.Numerals.{add-one}
@@ -40,9 +40,6 @@ module _ (format : List ℕ) (at : ℕ) where
   unfolding parseFrom
   at-end r h t e = rw (drop-of-length-le format h, e)
 
-  pub same-options : (o o′ : Options) → o ≡ o′ → parseFrom (InFlags o) at (drop at format) ≡ parseFrom (InFlags o′) at (drop at format)
-  same-options o o′ e = rw e
-
   pub same-turn : (t t′ : Turn) → t ≡ t′ → turned format at t ≡ turned format at t′
   same-turn t t′ e = rw e
 
@@ -53,9 +50,6 @@ module _ (format : List ℕ) (at : ℕ) where
       go : (x : Entry) → entered o w skipped x (at + 1) ≡ turned format at (onEntry o w skipped x)
       go (Is s) = refl
       go Missing = refl
-
-pub never {ℓ} : {A : Type ℓ} → false ≡ true → A
-never e = absurd (false≢true e)
 
 entry-cond : (o : Options) (w : Width) (skipped t : Bool) (x y : Entry) → onEntry o w skipped (cond t x y) ≡ cond t (onEntry o w skipped x) (onEntry o w skipped y)
 entry-cond o w skipped true x y = refl
@@ -140,13 +134,3 @@ module _ (o : Options) (b : ℕ) where
       pub letter-entry : b < 128 → onEntry o w false (specOf b) ≡ onLetter o w b
       unfolding onLetter
       letter-entry h = rw (ne-eqb b 58 n, ne-eqb b 69 n₁, ne-eqb b 79 n₂, lt-leb 128 b h)
-
-  -- a byte that is no flag, digit, colon or modifier, and below 128
-  pub letter-first : (b ≡ 45 → ⊥) → (b ≡ 95 → ⊥) → (b ≡ 94 → ⊥) → (b ≡ 35 → ⊥) → isDigit b ≡ false → (b ≡ 58 → ⊥) → (b ≡ 69 → ⊥) → (b ≡ 79 → ⊥) → b < 128 →
-      turn (InFlags o) b ≡ onEntry o Unset false (specOf b)
-  unfolding turn onFlag
-  letter-first n₁ n₂ n₃ n₄ d n₅ n₆ n₇ h =
-      rw (ne-eqb b 45 n₁, ne-eqb b 95 n₂, ne-eqb b 48 zero, ne-eqb b 94 n₃, ne-eqb b 35 n₄, d) (sym (letter-entry Unset n₅ n₆ n₇ h))
-    where
-      zero : b ≡ 48 → ⊥
-      zero e = never (sym d ∙ ap isDigit e)

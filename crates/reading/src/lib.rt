@@ -1,13 +1,11 @@
 // Ports `parse_spec` of mod.rs; with it the end of a run of literal bytes, and what makes a format no valid one.
 ghost use mathlib.Core.Path.{_≡_};
-ghost use mathlib.Core.Bool.{true, false};
+ghost use mathlib.Core.Bool.{true};
 ghost use Prim.Native.Nat.{_+_, _<_, min};
 ghost use lib.ListN.{length, drop, getD};
-ghost use Rattle.rules.specs.declared.Options.{Options};
-ghost use Rattle.rules.specs.declared.Width.the-variants.{Unset};
 ghost use Rattle.rules.specs.declared.Reading.the-variants.{InFlags, InWidth, AtModifier, InColons};
 ghost use Rattle.rules.specs.declared.Turn.{Turn};
-ghost use Rattle.rules.specs.Reading.{outset, onFlag, isDigit, widthWith, tooWide, specOf, onEntry, onLetter, turn};
+ghost use Rattle.rules.specs.Reading.{outset, onFlag, isDigit, widthWith, tooWide, onLetter};
 ghost use Rattle.rules.specs.Format.{fault, items, parseFrom};
 ghost use Rattle.reading.specs.Stages.{flagTurn, entered, colonEntry, turned};
 ghost use Rattle.reading.specs.Literals.{literalEnd};
@@ -225,7 +223,8 @@ fn parse_width(format: &[u8], options: Options, first: usize, start: usize) -> P
     }
 }
 
-fn parse_flags(format: &[u8], start: usize) -> Parsed
+// What stands at a percent sign, whose text goes on at `start`: flags first.
+pub fn parse_spec(format: &[u8], start: usize) -> Parsed
     ensures { λ r. ⌜ r ≡ parseFrom (InFlags outset) start (drop start (now (format .entry))) ⌝ }
 {
     let mut options = outset();
@@ -242,29 +241,6 @@ fn parse_flags(format: &[u8], start: usize) -> Parsed
         at += 1;
     }
     Parsed::Cut
-}
-
-// Whether the table decides of a byte that stands right after the percent sign.
-fn is_letter(b: u8) -> bool
-    ensures { λ r. ⌜ (r ≡ true → (options : Options) → turn (InFlags options) b ≡ onEntry options Unset false (specOf b)) ⌝ }
-{
-    match b {
-        b'-' | b'_' | b'^' | b'#' | b':' | b'E' | b'O' => false,
-        _ => !is_digit(b) && b < 128,
-    }
-}
-
-// What stands at a percent sign, whose text goes on at `start`.
-pub fn parse_spec(format: &[u8], start: usize) -> Parsed
-    ensures { λ r. ⌜ r ≡ parseFrom (InFlags outset) start (drop start (now (format .entry))) ⌝ }
-{
-    if start < format.len() {
-        let b = format[start];
-        if is_letter(b) {
-            return enter(spec_of(b), outset(), Width::Unset, false, start + 1);
-        }
-    }
-    parse_flags(format, start)
 }
 
 // The first percent sign at or after `from`, or the format's end.

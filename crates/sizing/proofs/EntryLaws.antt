@@ -24,7 +24,7 @@ use Rattle.rules.proofs.EventLaws.{splitOn}
 use Rattle.text.specs.Ran.{Ran}
 use Rattle.text.proofs.OverlayLaws.{take-replicate}
 use Rattle.text.proofs.RanLaws.{counted, same-events}
-use Rattle.text.proofs.EntryLaws.{ran-refused}
+use Rattle.text.proofs.EntryLaws.{from-start, ran-refused}
 use Rattle.longest.specs.Witness.{september, december, witness, longestIn, lengthAt, greater, tooLong, noBuffer, unless, refuses, needing, reportOf, sizeBy, sizeOf}
 use Rattle.longest.proofs.Fitting.{run-fits}
 use Rattle.longest.proofs.Faults.{fault-by-event}
@@ -58,7 +58,7 @@ module _ (month longest : ℕ) (format : List ℕ) {r : Record} (r-is : r ≡ lo
       fitting : lengthAt (longestIn month longest) format ≤ longestBuffer → ⊥
       fitting k =
           let fits = run-fits (limitOf (length format)) longestBuffer at-witness holds k (within-limit (longestIn month longest) format k) in
-          let short = ran-refused witnessed (ltb-true longestBuffer n (sym test ∙ e)) in
+          let short = ran-refused (limitOf (length format)) longestBuffer at-witness n (from-start witnessed) (ltb-true longestBuffer n (sym test ∙ e)) in
           let z : _≡_ {A = ℕ} 0 1 = cc in absurd (omega arith)
 
 -- ## The answer

@@ -11,10 +11,9 @@ use rules::LONGEST_FORMAT;
 use rules::LONGEST_ZONE;
 use rules::Record;
 use rules::Refusal;
-use text::copy_front;
 use text::is_refused;
 use text::refusal_at;
-use walk::run;
+use walk::stamp;
 
 const SCRATCH: usize = 192;
 
@@ -26,7 +25,7 @@ fn part_of(room: usize) -> usize
 }
 
 // The text of a format in the caller's buffer, or a refusal that leaves the buffer as it was. A text of at most 192 bytes is written
-// to a scratch and copied; a longer one is counted so, and then written straight to the buffer.
+// to a scratch and copied; of a longer one the rest is counted, and then written straight to the buffer.
 pub fn format(format: &[u8], zone: &[u8], record: Record, buffer: &mut [u8]) -> Answer
     ensures answer { λ r. ⌜ numbered r ≡ reported (formatted (now (format .entry)) (now (zone .entry)) «record» (length (now (buffer .entry)))) ⌝ }
     ensures buffer { λ r. ⌜ now (buffer .exit) ≡ bufferAfter (formatted (now (format .entry)) (now (zone .entry)) «record» (length (now (buffer .entry)))) (now (buffer .entry)) ⌝ }
@@ -43,13 +42,9 @@ pub fn format(format: &[u8], zone: &[u8], record: Record, buffer: &mut [u8]) -> 
     }
     let mut small = [0u8; SCRATCH];
     let part = part_of(room);
-    let end = run(format, zone, record, &mut small[..part], room);
+    let end = stamp(format, zone, record, &mut small[..part], buffer);
     if is_refused(end) {
         return Answer::Refused(refusal_at(end));
     }
-    if part < end {
-        return Answer::Done(run(format, zone, record, buffer, room));
-    }
-    copy_front(buffer, &small, end);
     Answer::Done(end)
 }

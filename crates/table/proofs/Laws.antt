@@ -8,6 +8,7 @@ use borrow.Author.Tests.{ne-eqb}
 use Rattle.rules.specs.declared.Entry.{Entry}
 use Rattle.rules.specs.declared.Entry.the-variants.{Is, Missing}
 use Rattle.rules.specs.declared.Modifier.{Modifier}
+use Rattle.rules.specs.declared.Spec.{Spec}
 use Rattle.rules.specs.Reading.{Row, letters, member, modified, lookUp, possibleSpecs, specOf}
 use Rattle.rules.proofs.MatchLaws.{NoneOf, none-known}
 

@@ -3,8 +3,8 @@ use mathlib.Core.Path.{_≡_, refl, sym, ap, _∙_}
 use mathlib.Core.Bool.{Bool, true, false}
 use Prim.Native.Nat.{ℕ, _+_, _-_, _*_, _/_, _%_, _≤_, _<_}
 use native.Mathlib.Omega.{arith}
-use borrow.Author.Tests.{le-leb, lt-leb, leb-true, leb-false}
-use lib.Dec.{leb, leb→le, nleb→lt}
+use borrow.Author.Tests.{le-leb, lt-leb, leb-true, leb-false, ltb-true, ltb-false}
+use lib.Dec.{leb, ltb, leb→le, nleb→lt}
 use Rattle.rules.specs.Event.{Count, at, no, reachOf}
 use Rattle.rules.proofs.EventLaws.{splitOn}
 use Rattle.text.specs.Ran.{countAt}
@@ -52,6 +52,12 @@ fits-yes n m e t = leb-true n m (sym e ∙ t)
 
 pub fits-no : {b : Bool} (n m : ℕ) → b ≡ leb n m → b ≡ false → m < n
 fits-no n m e t = leb-false n m (sym e ∙ t)
+
+pub refused-yes : (n : ℕ) {b : Bool} → b ≡ ltb 65536 n → b ≡ true → 65536 < n
+refused-yes n e t = ltb-true 65536 n (sym e ∙ t)
+
+pub refused-no : (n : ℕ) {b : Bool} → b ≡ ltb 65536 n → b ≡ false → n ≤ 65536
+refused-no n e t = ltb-false 65536 n (sym e ∙ t)
 
 -- ## How far the text came
 

@@ -7,7 +7,7 @@ use native.Mathlib.Omega.{arith}
 use native.Mathlib.Decide.{decLt}
 use lib.ListN.{length, take, drop, replicate, length-take}
 use lib.Seq.{take-all, take-nil, take-append-le, take-append-add}
-use Rattle.rules.specs.Event.{put, pad, Event, write, check, bytesOf, textOf, lengthOf, at, tally, reachOf}
+use Rattle.rules.specs.Event.{put, pad, Event, write, check, bytesOf, textOf, lengthOf, at, writeAt, one, tally, reachOf}
 use Rattle.rules.proofs.EventLaws.{length-text, text-join, tally-join, tally-no, tally-done, tally-room, stop-first}
 use Rattle.text.specs.Overlay.{overlay}
 use Rattle.text.specs.Ran.{countAt, Ran}
@@ -15,7 +15,7 @@ use Rattle.text.specs.Room.{Room}
 use Rattle.text.proofs.OverlayLaws.{overlay-nil, length-overlay, overlay-append, overlay-clipped, overlay-front-of, overlay-before, overlay-behind}
 use Rattle.text.proofs.PlaceLaws.{count-at, count-no, by-place, same-place, reach-at, reach-no, reach-past}
 use Rattle.text.proofs.CountLaws.{put-counted, join-counts, pad-counts, pad-after-counts, check-counts, refused-counts}
-use Rattle.text.proofs.ReachLaws.{reach-most, reach-least, no-room}
+use Rattle.text.proofs.ReachLaws.{reach-most, reach-least, reach-within, no-room}
 
 join-texts : (a b : List ℕ) (es : List Event) → textOf (write (put a) ∷ write (put b) ∷ es) ≡ textOf (write (put (a ++ b)) ∷ es)
 unfolding textOf bytesOf
@@ -34,6 +34,16 @@ module _ {limit room : ℕ} {es : List Event} {l l′ : List ℕ} {n n′ : ℕ}
   -- a refused place stays
   pub stays : 65536 < n → n′ ≡ n
   stays h = same-place (w .count ∙ ap (tally limit room es) (count-no n h) ∙ tally-no limit room es _ _ ∙ sym (count-no n h))
+
+  -- and no byte comes from it
+  pub still : 65536 < n → l′ ≡ l
+  still h =
+      let none : reachOf (countAt n′) - n ≡ 0 = rw (stays h) (reach-past n h) in
+      rw (none, overlay-nil) at (w .text)
+
+  -- the text comes no further than the longest buffer
+  pub reach-small : n ≤ 65536 → room ≤ 65536 → reachOf (countAt n′) ≤ 65536
+  reach-small h g = omega (arith, ap reachOf (counted-from h), reach-within limit room es n 65536 h g)
 
   pub grows : n ≤ n′
   grows =
@@ -102,11 +112,9 @@ module _ {limit room : ℕ} where
       over : 65536 < n′ → l″ ≡ overlay n (take (reach - n) (textOf (a ++ b))) l
       over h =
           let e : n″ ≡ n′ = stays w h in
-          let none : reach - n′ ≡ 0 = rw e (reach-past n′ h) in
-          let still : l″ ≡ l′ = rw (none, overlay-nil) at (w .text) in
           let same : reachOf (countAt n′) ≡ reach = rw e refl in
           let first : take (reach - n) (textOf (a ++ b)) ≡ take (reach - n) (textOf a) = rw text-join (take-append-le (reach - n) (textOf a) (textOf b) (omega (arith, came v, length-text a))) in
-          still ∙ rw (same, ← first) at (v .text)
+          still w h ∙ rw (same, ← first) at (v .text)
 
       -- the first came to its end, within the room or with no byte
       far : n′ ≤ 65536 → n′ ≡ n + length (textOf a) → reach - n ≡ length (textOf a) + (reach - n′)
@@ -159,6 +167,11 @@ module _ {limit room : ℕ} where
 
   pub pad-none : {c : ℕ} {t : List ℕ} {es : List Event} {l l′ : List ℕ} {n n′ : ℕ} → 65536 ≤ limit → Ran limit room (write (put t) ∷ es) l n l′ n′ → Ran limit room (write (pad c 0) ∷ write (put t) ∷ es) l n l′ n′
   pad-none h w = as-pad (λ k. omega arith) (parted {a = []} w)
+
+  -- a pad of no bytes is that of any byte
+  pub any-byte : {c d : ℕ} {es : List Event} {l l′ : List ℕ} {n n′ : ℕ} → Ran limit room (write (pad c 0) ∷ es) l n l′ n′ → Ran limit room (write (pad d 0) ∷ es) l n l′ n′
+  unfolding tally one writeAt textOf bytesOf
+  any-byte w = alike (λ h. refl) refl w
 
   pub pad-after : {a : List ℕ} {c count : ℕ} {es : List Event} {l l′ : List ℕ} {n n′ : ℕ} → room + count ≤ limit → Ran limit room (write (put a) ∷ write (put (replicate count c)) ∷ es) l n l′ n′ → Ran limit room (write (put a) ∷ write (pad c count) ∷ es) l n l′ n′
   unfolding textOf bytesOf

@@ -1,4 +1,4 @@
--- How far the text of a list of events comes: no further than its length, and no less far than where it began.
+-- How far the text of a list of events comes: no further than its length or the room, and no less far than where it began.
 use mathlib.Core.Path.{_≡_}
 use mathlib.Core.Bool.{true, false}
 use mathlib.Core.List.{List, [], _∷_}
@@ -27,6 +27,16 @@ module _ (limit room : ℕ) where
       (λ short. rw (tally-no limit room es 4 room) h) (λ far. rw (tally-no limit room es 3 n) (omega arith))
   reach-least (check true number ∷ es) n h = reach-least es n h
   reach-least (check false number ∷ es) n h = rw (tally-no limit room es number n) (omega arith)
+
+  pub reach-within : (es : List Event) (n most : ℕ) → n ≤ most → room ≤ most → reachOf (tally limit room es (at n)) ≤ most
+  unfolding tally one reachOf
+  reach-within [] n most h g = h
+  reach-within (write w ∷ es) n most h g =
+      write-cases limit room (λ c. reachOf (tally limit room es c) ≤ most) w n
+      (λ fit. reach-within es (n + writeLength w) most (omega arith) g)
+      (λ short. rw (tally-no limit room es 4 room) g) (λ far. rw (tally-no limit room es 3 n) h)
+  reach-within (check true number ∷ es) n most h g = reach-within es n most h g
+  reach-within (check false number ∷ es) n most h g = rw (tally-no limit room es number n) h
 
   -- where there is no room from the start, only checks pass
   pub no-room : (es : List Event) (n m : ℕ) → room < n → tally limit room es (at n) ≡ at m → m ≡ n

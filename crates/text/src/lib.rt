@@ -137,6 +137,7 @@ fn put_short(out: &mut [u8], at: usize, room: usize, src: &[u8]) -> usize
     missed(at, count, room)
 }
 
+// A run goes this way where it fits too: hardly a plain directive has one.
 pub fn run_short(out: &mut [u8], at: usize, room: usize, byte: u8, count: usize) -> usize
     requires { ⌜ Room (now out) room ⌝ }
     ensures { λ r. ⌜ ((limit : ℕ) → Ran limit room (event.write (event.put (replicate count byte)) ∷ []) (now (out .entry)) at (now (out .exit)) r) ⌝ }
@@ -227,8 +228,8 @@ pub fn put_part(
     put_slice(out, at, room, &src[from..end])
 }
 
-// A pad that has no place in the slice for all of its bytes: tested whole against the limit, then against the room.
-fn missed_pad(out: &mut [u8], at: usize, room: usize, limit: usize, byte: u8, count: usize) -> usize
+// A pad, tested whole against the limit, then against the room.
+pub fn pad(out: &mut [u8], at: usize, room: usize, limit: usize, byte: u8, count: usize) -> usize
     requires { ⌜ Room (now out) room ⌝ }
     ensures { λ r. ⌜ Ran limit room (event.write (event.pad byte count) ∷ []) (now (out .entry)) at (now (out .exit)) r ⌝ }
 {
@@ -241,15 +242,26 @@ fn missed_pad(out: &mut [u8], at: usize, room: usize, limit: usize, byte: u8, co
     refused(3, at)
 }
 
-pub fn pad(out: &mut [u8], at: usize, room: usize, limit: usize, byte: u8, count: usize) -> usize
+// The pad of no bytes.
+pub fn pad_none(out: &mut [u8], at: usize, room: usize, limit: usize) -> usize
     requires { ⌜ Room (now out) room × (longestBuffer ≤ limit) ⌝ }
-    ensures { λ r. ⌜ Ran limit room (event.write (event.pad byte count) ∷ []) (now (out .entry)) at (now (out .exit)) r ⌝ }
+    ensures { λ r. ⌜ ((byte : ℕ) → Ran limit room (event.write (event.pad byte 0) ∷ []) (now (out .entry)) at (now (out .exit)) r) ⌝ }
 {
-    if fits(at, count, out.len()) {
-        fill(out, at, byte, count);
-        return at + count;
+    if at <= out.len() {
+        return at;
     }
-    missed_pad(out, at, room, limit, byte, count)
+    pad(out, at, room, limit, b' ', 0)
+}
+
+pub fn put_byte(out: &mut [u8], at: usize, room: usize, byte: u8) -> usize
+    requires { ⌜ Room (now out) room ⌝ }
+    ensures { λ r. ⌜ ((limit : ℕ) → Ran limit room (event.write (event.put (byte ∷ [])) ∷ []) (now (out .entry)) at (now (out .exit)) r) ⌝ }
+{
+    if at < out.len() {
+        out[at] = byte;
+        return at + 1;
+    }
+    missed(at, 1, room)
 }
 
 // Two decimal digits.

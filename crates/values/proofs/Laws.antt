@@ -2,11 +2,17 @@
 use mathlib.Core.Path.{_≡_, refl, sym, ap, _∙_, subst, subst⁻¹}
 use mathlib.Core.Bool.{Bool, true, false}
 use mathlib.Core.List.{List, [], _∷_}
+use mathlib.Core.Logic.{inl, inr}
 use Prim.Native.Nat.{ℕ, _≤_}
 use native.Mathlib.Omega.{arith}
 use lib.IntN.{ℤ}
+use types.Run.{OneOf, miss}
+use denote.Enum.Declared.{tagOf}
+use borrow.Enum.Known.{lives-at}
 use borrow.Author.Tests.{eq-eqb, ne-eqb}
+use Rattle.rules.proofs.Number.{enum, the-type}
 use Rattle.rules.specs.declared.Number.{Number}
+use Rattle.rules.specs.declared.Number.the-variants.{WeekNumberIso8601}
 use Rattle.rules.specs.declared.Padding.{Padding}
 use Rattle.rules.specs.declared.Record.{Record}
 use Rattle.rules.specs.Record.{Field, okField, allOk, weekday, dayOfYear}
@@ -17,7 +23,7 @@ use Rattle.rules.proofs.RecordLaws.{ranges-of}
 use Rattle.fields.proofs.Laws.{alone}
 use Rattle.values.specs.declared.Value.{Value}
 use Rattle.values.specs.Value.{fillBy, ValueIs}
-use Rattle.values.specs.Inner.{Valued, InWeek, Weekly}
+use Rattle.values.specs.Inner.{Valued, InWeek, Weekly, OfIsoWeek}
 
 -- ## "with 0 read as"
 
@@ -26,6 +32,22 @@ is-zero other n h = rw (eq-eqb n 0 h)
 
 pub not-zero : (other n : ℕ) → (n ≡ 0 → ⊥) → n ≡ orIfZero other n
 not-zero other n h = rw (ne-eqb n 0 h)
+
+-- ## The numbers of the ISO week, by their places among the numbers
+
+pub of-iso-week : (n : Number) → OneOf (15 ∷ 16 ∷ 17 ∷ []) (tagOf the-type n) → OfIsoWeek n
+of-iso-week n (inl e) = inl (lives-at enum n 15 e .1)
+of-iso-week n (inr (inl e)) = inr (inl (lives-at enum n 16 e .1))
+of-iso-week n (inr (inr e)) = inr (inr (lives-at enum n 17 e .1))
+
+-- the places of all but the first two of them
+abbrev rest : List ℕ
+rest = 0 ∷ 1 ∷ 2 ∷ 3 ∷ 4 ∷ 5 ∷ 6 ∷ 7 ∷ 8 ∷ 9 ∷ 10 ∷ 11 ∷ 12 ∷ 13 ∷ 14 ∷ 17 ∷ 18 ∷ 19 ∷ 20 ∷ []
+
+pub last-of-three : (n : Number) → OneOf rest (tagOf the-type n) → OfIsoWeek n → n ≡ WeekNumberIso8601
+last-of-three n k (inl e) = absurd (miss rest 15 tt (subst (λ (m : Number). OneOf rest (tagOf the-type m)) e k))
+last-of-three n k (inr (inl e)) = absurd (miss rest 16 tt (subst (λ (m : Number). OneOf rest (tagOf the-type m)) e k))
+last-of-three n k (inr (inr e)) = e
 
 -- ## Fields in range
 

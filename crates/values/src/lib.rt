@@ -7,7 +7,8 @@ ghost use Rattle.rules.specs.Week.{isoWeek, weekNumber};
 ghost use Rattle.rules.specs.Writing.{yearWidth, orIfZero, hour12};
 ghost use Rattle.week.specs.Start.{startOf};
 ghost use Rattle.values.specs.Value.{ValueIs};
-ghost use Rattle.values.specs.Inner.{Valued, InWeek, Weekly};
+ghost use Rattle.values.specs.Inner.{Valued, InWeek, Weekly, OfIsoWeek};
+use printing::year_width;
 use rules::IsoWeek;
 use rules::Number;
 use rules::Record;
@@ -28,14 +29,8 @@ pub fn hour12(hour: u8) -> u8
     if hour == 0 { 12 } else { hour }
 }
 
-pub fn year_width(year: i64) -> usize
-    ensures { λ r. ⌜ r ≡ yearWidth year ⌝ }
-{
-    if year < 0 { 5 } else { 4 }
-}
-
 // Sunday is 7.
-fn from_1(day_of_week: u8) -> u8
+pub fn from_1(day_of_week: u8) -> u8
     ensures { λ r. ⌜ r ≡ orIfZero 7 «day_of_week» ⌝ }
 {
     if day_of_week == 0 { 7 } else { day_of_week }
@@ -80,7 +75,7 @@ fn spaces(ok: bool, number: u8) -> Value
 }
 
 // The ISO year and week of a day that is in range, else zeros.
-fn iso(record: Record) -> IsoWeek
+pub fn iso(record: Record) -> IsoWeek
     ensures { λ r. ⌜ (InWeek «record» → r ≡ isoWeek («record» .year) («record» .«day_of_week») («record» .«day_of_year»)) ⌝ }
 {
     if fields::week(record) {
@@ -90,7 +85,7 @@ fn iso(record: Record) -> IsoWeek
     }
 }
 
-fn week_of(record: Record, week_start: WeekStart) -> u8
+pub fn week_of(record: Record, week_start: WeekStart) -> u8
     ensures { λ r. ⌜ (InWeek «record» → r ≡ weekNumber (startOf «week_start») («record» .«day_of_week») («record» .«day_of_year»)) ⌝ }
 {
     if fields::week(record) {
@@ -105,6 +100,18 @@ fn weekly(record: Record, number: u8) -> Value
     ensures { λ v. ⌜ Weekly «record» (pos number) 2 v ⌝ }
 {
     zeros(fields::week(record), number, 2)
+}
+
+// The three numbers of the ISO week, so that it is computed at one place.
+fn iso_value(number: Number, record: Record) -> Value
+    ensures { λ v. ⌜ (OfIsoWeek number → ValueIs number «record» v) ⌝ }
+{
+    let iso = iso(record);
+    match number {
+        Number::YearIso8601 => year(fields::week(record), iso.year),
+        Number::YearIso8601Rem100 => weekly(record, numbers::rem_euclid_100_wide(iso.year)),
+        _ => weekly(record, iso.week),
+    }
 }
 
 pub fn value_of(number: Number, record: Record) -> Value
@@ -126,9 +133,9 @@ pub fn value_of(number: Number, record: Record) -> Value
         Number::Second => zeros(fields::second(record), record.second, 2),
         Number::WeekDayFrom1 => zeros(fields::day_of_week(record), from_1(record.day_of_week), 1),
         Number::WeekDayFrom0 => zeros(fields::day_of_week(record), record.day_of_week, 1),
-        Number::YearIso8601 => year(fields::week(record), iso(record).year),
-        Number::YearIso8601Rem100 => weekly(record, numbers::rem_euclid_100_wide(iso(record).year)),
-        Number::WeekNumberIso8601 => weekly(record, iso(record).week),
+        Number::YearIso8601 | Number::YearIso8601Rem100 | Number::WeekNumberIso8601 => {
+            iso_value(number, record)
+        }
         Number::WeekNumberFromSunday => weekly(record, week_of(record, WeekStart::Sunday)),
         Number::WeekNumberFromMonday => weekly(record, week_of(record, WeekStart::Monday)),
         Number::SecondsSinceEpoch => wide(true, record.to_int, 1),

@@ -1,64 +1,86 @@
--- A letter right after the percent sign is a plain directive; and the step of the walk that it is.
-use mathlib.Core.Path.{_≡_, refl, sym, ap, _∙_}
+-- A letter ends a directive: right after the percent sign it is a plain one; and the step of the walk that it is.
+use mathlib.Core.Path.{_≡_, refl, sym, ap, subst, _∙_}
 use mathlib.Core.Bool.{Bool, true, false, cond}
 use mathlib.Core.List.{List, [], _∷_, map}
 use Prim.Native.Nat.{ℕ, _+_, _<_}
+use native.Mathlib.Decide.{decLt}
 use native.Mathlib.Omega.{arith}
 use borrow.Author.Tests.{eqb-true}
 use lib.Dec.{eqb}
-use lib.ListN.{length, getD}
+use lib.ListN.{length, getD, List·getD-eq-default}
+use Rattle.rules.specs.declared.Options.{Options}
 use Rattle.rules.specs.declared.Record.{Record}
 use Rattle.rules.specs.declared.Spec.{Spec}
-use Rattle.rules.specs.declared.Entry.{Entry}
-use Rattle.rules.specs.declared.Entry.the-variants.{Is, Missing}
+use Rattle.rules.specs.declared.Entry.the-variants.{Is}
 use Rattle.rules.specs.declared.Reading.the-variants.{InFlags}
 use Rattle.rules.specs.declared.Turn.{Turn}
 use Rattle.rules.specs.declared.Turn.the-variants.{Found}
-use Rattle.rules.specs.Reading.{outset, onFlag, Row, possibleSpecs, lookUp, specOf, onLetter, turn}
+use Rattle.rules.specs.declared.Width.the-variants.{Unset}
+use Rattle.rules.specs.Reading.{outset, onFlag, Row, possibleSpecs, lookUp, specOf, pieceOf, onLetter, turn}
 use Rattle.rules.specs.Writing.{specEvents, eventsOf}
 use Rattle.text.specs.Ran.{Ran}
 use Rattle.printing.specs.Plain.{plainPiece}
 use Rattle.reading.proofs.Laws.{by-turn}
 use Rattle.reading.proofs.Positions.{items-at}
+use Rattle.letters.specs.Letter.{RanLetter}
 use Rattle.walk.specs.declared.Step.{Step}
 use Rattle.walk.specs.Steps.{Stepped}
 use Rattle.walk.proofs.WalkLaws.{step-directive}
 
-abbrev turns : List Row → List Turn
-turns rows = map (λ (r : Row). turn (InFlags outset) (r .letter)) rows
+abbrev turns : Options → List Row → List Turn
+turns o rows = map (λ (r : Row). turn (InFlags o) (r .letter)) rows
 
-abbrev plains : List Row → List Turn
-plains rows = map (λ (r : Row). Found (plainPiece (r .spec))) rows
+abbrev pieces : Options → List Row → List Turn
+pieces o rows = map (λ (r : Row). Found (pieceOf o Unset false (r .spec))) rows
 
 -- no letter of the table is a flag, a digit, a colon, or `E` or `O`
-letters-end : turns possibleSpecs ≡ plains possibleSpecs
+letters-end : (o : Options) → turns o possibleSpecs ≡ pieces o possibleSpecs
 unfolding possibleSpecs turn onFlag onLetter lookUp
-letters-end = refl
+letters-end o = refl
 
 -- what a letter of some rows finds
-by-rows : (rows : List Row) → turns rows ≡ plains rows → (b : ℕ) (s : Spec) → lookUp b rows ≡ Is s → turn (InFlags outset) b ≡ Found (plainPiece s)
+by-rows : (o : Options) (rows : List Row) → turns o rows ≡ pieces o rows → (b : ℕ) (s : Spec) → lookUp b rows ≡ Is s → turn (InFlags o) b ≡ Found (pieceOf o Unset false s)
 unfolding lookUp
-by-rows [] e b s f = let z : _≡_ {A = ℕ} 0 1 = cc in absurd (omega arith)
-by-rows (r ∷ rs) e b s f = go (λ rest. by-rows rs rest b s) (eqb b (r .letter)) refl f
+by-rows o [] e b s f = let z : _≡_ {A = ℕ} 0 1 = cc in absurd (omega arith)
+by-rows o (r ∷ rs) e b s f = go (λ rest. by-rows o rs rest b s) (eqb b (r .letter)) refl f
   where
-    go : (turns rs ≡ plains rs → lookUp b rs ≡ Is s → turn (InFlags outset) b ≡ Found (plainPiece s)) →
-        (t : Bool) → eqb b (r .letter) ≡ t → cond t (Is (r .spec)) (lookUp b rs) ≡ Is s → turn (InFlags outset) b ≡ Found (plainPiece s)
+    go : (turns o rs ≡ pieces o rs → lookUp b rs ≡ Is s → turn (InFlags o) b ≡ Found (pieceOf o Unset false s)) →
+        (t : Bool) → eqb b (r .letter) ≡ t → cond t (Is (r .spec)) (lookUp b rs) ≡ Is s → turn (InFlags o) b ≡ Found (pieceOf o Unset false s)
     go later true q f =
         let here : b ≡ r .letter = eqb-true b (r .letter) q in
         let found : r .spec ≡ s = cc in
-        let first : turn (InFlags outset) (r .letter) ≡ Found (plainPiece (r .spec)) = cc in
-        ap (turn (InFlags outset)) here ∙ first ∙ ap (λ (x : Spec). Found (plainPiece x)) found
-    go later false q f = let rest : turns rs ≡ plains rs = cc in later rest f
+        let first : turn (InFlags o) (r .letter) ≡ Found (pieceOf o Unset false (r .spec)) = cc in
+        ap (turn (InFlags o)) here ∙ first ∙ ap (λ (x : Spec). Found (pieceOf o Unset false x)) found
+    go later false q f = let rest : turns o rs ≡ pieces o rs = cc in later rest f
 
-pub step-letter : {limit room : ℕ} {r : Record} {zone format : List ℕ} {i : ℕ} {l l′ : List ℕ} {n : ℕ} (s : Step) (spec : Spec) → getD format i 0 ≡ 37 → i + 1 < length format → specOf (getD format (i + 1) 0) ≡ Is spec → s .next ≡ i + 2 → Ran limit room (specEvents spec (plainPiece spec) r zone) l n l′ (s .at) → Stepped limit room r zone format i l n l′ s
-unfolding eventsOf
-step-letter {format = format} {i = i} s spec p h f e w =
-    let next : s .next ≡ i + 1 + 1 = omega arith in
-    step-directive s (plainPiece spec)
-    (rw next (items-at format i .percent (omega arith) p _ (sym (by-turn format (i + 1) (InFlags outset) h (Found (plainPiece spec)) (sym (by-rows possibleSpecs letters-end _ spec f))))))
-    w
+pub letter-ends : (o : Options) (b : ℕ) (s : Spec) → specOf b ≡ Is s → turn (InFlags o) b ≡ Found (pieceOf o Unset false s)
+letter-ends o = by-rows o possibleSpecs (letters-end o)
 
 -- ## The letter that was read
 
-pub none-there : {P : Type 0} (s : Spec) → _≡_ {A = Entry} Missing (Is s) → P
-none-there s e = let z : _≡_ {A = ℕ} 0 1 = cc in absurd (omega arith)
+-- past the end every byte is read as 0, which is none
+pub byte-there : (format : List ℕ) (i : ℕ) → (getD format i 0 ≡ 0 → ⊥) → i < length format
+byte-there format i f =
+    elim (decLt i (length format)) [ yes l ↦ l | no l ↦ absurd (f (List·getD-eq-default format 0 (omega arith))) ]
+
+pub letter-there : (format : List ℕ) (i : ℕ) (s : Spec) → specOf (getD format i 0) ≡ Is s → i < length format
+unfolding lookUp possibleSpecs
+letter-there format i s f = byte-there format i (λ e. let z : _≡_ {A = ℕ} 0 1 = cc (f, ap specOf e) in omega arith)
+
+module _ {limit room : ℕ} {r : Record} {zone format : List ℕ} {i : ℕ} {l l′ : List ℕ} {n : ℕ} (s : Step) (p : getD format i 0 ≡ 37) where
+  step-letter : (spec : Spec) → specOf (getD format (i + 1) 0) ≡ Is spec → s .next ≡ i + 2 → Ran limit room (specEvents spec (plainPiece spec) r zone) l n l′ (s .at) → Stepped limit room r zone format i l n l′ s
+  unfolding eventsOf
+  step-letter spec f e w =
+      let h = letter-there format (i + 1) spec f in
+      let next : s .next ≡ i + 1 + 1 = omega arith in
+      step-directive s (plainPiece spec)
+      (rw next (items-at format i .percent (omega arith) p _ (sym (by-turn format (i + 1) (InFlags outset) h (Found (plainPiece spec)) (sym (letter-ends outset _ spec f))))))
+      w
+
+module _ {limit room : ℕ} {r : Record} {zone format : List ℕ} {i b : ℕ} {l l′ : List ℕ} {n n′ : ℕ} where
+  pub step-plain : getD format i 0 ≡ 37 → b ≡ getD format (i + 1) 0 → RanLetter limit room b r zone l n l′ n′ → Stepped limit room r zone format i l n l′ (record { at = n′; next = i + 2 })
+  step-plain p e w = step-letter (record { at = n′; next = i + 2 }) p (w .spec) (ap specOf (sym e) ∙ w .entry) refl (w .ran)
+
+-- what was tried as a letter, and was left alone
+pub step-unread : {limit room : ℕ} {r : Record} {zone format : List ℕ} {i : ℕ} {l l′ l″ : List ℕ} {n : ℕ} {s : Step} → l′ ≡ l → Stepped limit room r zone format i l′ n l″ s → Stepped limit room r zone format i l n l″ s
+step-unread {limit} {room} {r} {zone} {format} {i} {l″ = l″} {n = n} {s = s} e w = subst (λ (x : List ℕ). Stepped limit room r zone format i x n l″ s) e w

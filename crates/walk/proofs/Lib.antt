@@ -1,3 +1,5 @@
 pub mod LetterLaws
-pub mod TwoLaws
+pub mod LiteralLaws
+pub mod MarkLaws
+pub mod StampLaws
 pub mod WalkLaws

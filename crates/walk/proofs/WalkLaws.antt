@@ -40,9 +40,12 @@ module _ (eventsFor : Piece → List Event) where
       go rest (no number m) =
           tally-no limit room (write (put (c ∷ t)) ∷ []) number m ∙ sym (tally-no limit room (events eventsFor (map literal (c ∷ t))) number m)
 
-  literals-ran : {limit room : ℕ} (t : List ℕ) {l l′ : List ℕ} {n n′ : ℕ} → 0 < length t → Ran limit room (write (put t) ∷ []) l n l′ n′ → Ran limit room (events eventsFor (map literal t)) l n l′ n′
-  literals-ran [] h w = absurd (omega arith)
-  literals-ran {limit} {room} (b ∷ t) {n = n} h w = alike (λ k. literals-count limit room b t n) (literals-text (b ∷ t)) w
+  literals-run : {limit room : ℕ} (t : List ℕ) {l l′ : List ℕ} {n n′ : ℕ} → 0 < length t → Ran limit room (write (put t) ∷ []) l n l′ n′ → Ran limit room (events eventsFor (map literal t)) l n l′ n′
+  literals-run [] h w = absurd (omega arith)
+  literals-run {limit} {room} (b ∷ t) {n = n} h w = alike (λ k. literals-count limit room b t n) (literals-text (b ∷ t)) w
+
+pub literals-ran : (r : Record) (zone format : List ℕ) (i e : ℕ) {limit room : ℕ} {l l′ : List ℕ} {n n′ : ℕ} → i < e → e ≤ length format → Ran limit room (write (put (take (e - i) (drop i format))) ∷ []) l n l′ n′ → Ran limit room (events (eventsOf r zone) (map literal (take (e - i) (drop i format)))) l n l′ n′
+literals-ran r zone format i e h g w = literals-run (eventsOf r zone) (take (e - i) (drop i format)) (simp (length-take, length-drop) (omega arith)) w
 
 -- an item's events alone
 one-item : (eventsFor : Piece → List Event) (i : Item) → itemEvents eventsFor i ≡ events eventsFor (i ∷ [])
@@ -50,11 +53,15 @@ unfolding events
 one-item eventsFor i = sym (append-nil (itemEvents eventsFor i))
 
 -- nothing is left at the end
-ends : (format : List ℕ) (i : ℕ) → i ≡ length format → read between (drop i format) ≡ []
+pub ends : (format : List ℕ) (i : ℕ) → i ≡ length format → read between (drop i format) ≡ []
 unfolding read ending
 ends format i e = rw (e, drop-length)
 
 -- ## One step
+
+-- the items of a step
+pub part-of : {limit room : ℕ} {r : Record} {zone format : List ℕ} {i : ℕ} {l l′ : List ℕ} {n : ℕ} {s : Step} (w : Stepped limit room r zone format i l n l′ s) → Part format i (w .found) (s .next)
+part-of w = record { items = w .items; onward = w .onward; within = w .within }
 
 module _ {limit room : ℕ} {r : Record} {zone format : List ℕ} {i : ℕ} {l l′ : List ℕ} {n : ℕ} where
   by-item : (s : Step) (x : Item) → Part format i (x ∷ []) (s .next) → Ran limit room (itemEvents (eventsOf r zone) x) l n l′ (s .at) → Stepped limit room r zone format i l n l′ s
@@ -78,39 +85,36 @@ module _ {limit room : ℕ} {r : Record} {zone format : List ℕ} {i : ℕ} {l l
 
 -- ## The walk
 
--- at position i of the format and place n: the items before i have been run from the start, over the list l₀
-pub record Walked (limit room : ℕ) (r : Record) (zone format : List ℕ) (l₀ : List ℕ) (i : ℕ) (l : List ℕ) (n : ℕ) : Type 0 where
+-- at position i of the format and place n: the items from position `from` up to i have been run from place `start`, over the list l₀
+pub record Walked (limit room : ℕ) (r : Record) (zone format : List ℕ) (from start : ℕ) (l₀ : List ℕ) (i : ℕ) (l : List ℕ) (n : ℕ) : Type 0 where
   pub found : List Item
-  pub rest : items format ≡ found ++ read between (drop i format)
+  pub rest : read between (drop from format) ≡ found ++ read between (drop i format)
+  pub onward : from ≤ i
   pub within : i ≤ length format
-  pub ran : Ran limit room (events (eventsOf r zone) found) l₀ 0 l n
+  pub ran : Ran limit room (events (eventsOf r zone) found) l₀ start l n
 
-module _ {limit room : ℕ} {r : Record} {zone format : List ℕ} where
-  pub walk-start : {l : List ℕ} → Walked limit room r zone format l 0 l 0
+module _ {limit room : ℕ} {r : Record} {zone format : List ℕ} {from start : ℕ} where
+  pub walk-start : {l : List ℕ} → from ≤ length format → Walked limit room r zone format from start l from l start
   unfolding events
-  walk-start = record { found = []; rest = refl; within = omega arith; ran = nothing }
+  walk-start h = record { found = []; rest = refl; onward = omega arith; within = h; ran = nothing }
 
-  walk-on : {l₀ l l′ : List ℕ} {i n n′ j : ℕ} (is : List Item) → Walked limit room r zone format l₀ i l n → Part format i is j → Ran limit room (events (eventsOf r zone) is) l n l′ n′ → Walked limit room r zone format l₀ j l′ n′
+  walk-on : {l₀ l l′ : List ℕ} {i n n′ j : ℕ} (is : List Item) → Walked limit room r zone format from start l₀ i l n → Part format i is j → Ran limit room (events (eventsOf r zone) is) l n l′ n′ → Walked limit room r zone format from start l₀ j l′ n′
   walk-on {j = j} is w p v =
       record {
         found = w .found ++ is;
         rest = w .rest ∙ ap (λ (x : List Item). w .found ++ x) (p .items) ∙ sym (append-assoc (w .found) is (read between (drop j format)));
+        onward = omega (arith, w .onward, p .onward);
         within = p .within;
         ran = same-events (sym (events-join (eventsOf r zone) (w .found) is)) (w .ran then v);
       }
 
-  pub walk-item : {l₀ l l′ : List ℕ} {i n : ℕ} (s : Step) → Walked limit room r zone format l₀ i l n → Stepped limit room r zone format i l n l′ s → Walked limit room r zone format l₀ (s .next) l′ (s .at)
-  walk-item s w v = walk-on (v .found) w (record { items = v .items; onward = v .onward; within = v .within }) (v .ran)
+  pub walk-item : {l₀ l l′ : List ℕ} {i n : ℕ} (s : Step) → Walked limit room r zone format from start l₀ i l n → Stepped limit room r zone format i l n l′ s → Walked limit room r zone format from start l₀ (s .next) l′ (s .at)
+  walk-item s w v = walk-on (v .found) w (part-of v) (v .ran)
 
-  pub walk-literals : {l₀ l l′ : List ℕ} {i n n′ e : ℕ} → Walked limit room r zone format l₀ i l n → Part format i (map literal (take (e - i) (drop i format))) e → Ran limit room (write (put (take (e - i) (drop i format))) ∷ []) l n l′ n′ → Walked limit room r zone format l₀ e l′ n′
-  walk-literals {i = i} {e = e} w p v =
-      walk-on (map literal (take (e - i) (drop i format))) w p
-      (literals-ran (eventsOf r zone) (take (e - i) (drop i format)) (some (p .onward) (p .within)) v)
-    where
-      some : i < e → e ≤ length format → 0 < length (take (e - i) (drop i format))
-      some h g = simp (length-take, length-drop) (omega arith)
+  pub walk-literals : {l₀ l l′ : List ℕ} {i n n′ e : ℕ} → Walked limit room r zone format from start l₀ i l n → Part format i (map literal (take (e - i) (drop i format))) e → Ran limit room (write (put (take (e - i) (drop i format))) ∷ []) l n l′ n′ → Walked limit room r zone format from start l₀ e l′ n′
+  walk-literals {i = i} {e = e} w p v = walk-on _ w p (literals-ran r zone format i e (p .onward) (p .within) v)
 
-  pub walk-end : {l₀ l : List ℕ} {i n : ℕ} → length format ≤ i → Walked limit room r zone format l₀ i l n → Ran limit room (events (eventsOf r zone) (items format)) l₀ 0 l n
+  pub walk-end : {l₀ l : List ℕ} {i n : ℕ} → length format ≤ i → Walked limit room r zone format from start l₀ i l n → Ran limit room (events (eventsOf r zone) (read between (drop from format))) l₀ start l n
   walk-end {i = i} h w =
       let e : i ≡ length format = omega (arith, w .within) in
       same-events (ap (events (eventsOf r zone)) (sym (w .rest ∙ ap (λ (is : List Item). w .found ++ is) (ends format i e) ∙ append-nil (w .found)))) (w .ran)

@@ -38,6 +38,18 @@ pub fn iso_8601_year_and_week_number(year: i32, week_day: u8, year_day_1: u16) -
     requires { ⌜ («week_day» ≤ 6) × (1 ≤ «year_day_1») × («year_day_1» ≤ daysIn year) ⌝ }
     ensures { λ r. ⌜ r ≡ isoWeek year «week_day» «year_day_1» ⌝ }
 {
+    // Neither before week one nor in a week that may be the next year's first.
+    let year_day = year_day_1 - 1;
+    let start = start_of_first_week(week_day as u16, year_day);
+    if start <= year_day + 7 {
+        let week = (year_day + 14 - start) / 7;
+        if week < 52 {
+            return IsoWeek {
+                year: year as i64,
+                week: week as u8,
+            };
+        }
+    }
     year_and_week_number(year as i64, week_day as u16, year_day_1, 1)
 }
 

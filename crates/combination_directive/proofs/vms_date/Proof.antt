@@ -26,7 +26,7 @@ unfolding combinationFields combinationText flatten
 returns-2 c =
     let k = c .before .before .before .before .before .before .before .before .before .before .before in
     let year = widened (k .before .before .before .before .before .before .args .«record» .year) (search needs) in
-    λ upper. written CombinationVmsDate _ (held (k .before .before)) (λ f e. rw (year, ← k .before .day-digits .ensures, ← k .month-three .ensures, append-nil)) (λ limit. joined (c .before .before .before .before .before .before .before .before .put .ensures limit then c .before .before .put-decimal .ensures limit))
+    λ upper. written CombinationVmsDate _ (held (k .before .before)) (λ f e. rw (year, ← k .before .spaced-digits .ensures, ← k .month-three .ensures, append-nil)) (λ limit. joined (c .before .before .before .before .before .before .before .before .put .ensures limit then c .before .before .put-decimal .ensures limit))
 
 pub vms-date-spec : {M : Type 1} → statement M
 vms-date-spec =

@@ -33,7 +33,7 @@ put-name-requires c κs =
     let after-verdict = after-if1 .before in
     let after-in-range = after-verdict .before in
     let s = after-in-range .before .before in
-    (room-kept (after-string-padding .string-padding .ensures) (s .pre .0), in-range-named (s .args .name) (s .args .«record») (after-in-range .in-range .ensures) (verdict-held _ (after-verdict .verdict .ensures) (after-if1 .if1 .left)) (after-name-number .name-number .ensures))
+    (room-kept (after-string-padding .string-padding .ensures) (s .pre), in-range-named (s .args .name) (s .args .«record») (after-in-range .in-range .ensures) (verdict-held _ (after-verdict .verdict .ensures) (after-if1 .if1 .left)) (after-name-number .name-number .ensures))
 
 returns-2 : tie.Need-returns-2
 returns-2 c =

@@ -1,7 +1,6 @@
 -- A width of at most 65,535 is the text alone; a wider one is the pad and the text.
 use Rattle.printing.specs.FillWith.{fillWith}
-use Rattle.number_directive.proofs.NumberLaws.{narrow, wide}
-use Rattle.number_directive.proofs.QuickLaws.{as-read}
+use Rattle.number_directive.proofs.NumberLaws.{narrow, wide, as-read}
 use borrow.Author.Needs.{needs}
 use Rattle.number_directive.proofs.format_num.Statement.{statement}
 use Rattle.number_directive.proofs.format_num.Tie as tie

@@ -5,7 +5,7 @@ use Prim.Native.Nat.{_+_}
 use native.Mathlib.Omega.{arith}
 use lib.ListN.{drop, length-set}
 use Rattle.rules.specs.Decimal.{places}
-use Rattle.numbers.proofs.PlacesLaws.{Written, none, one-more, two-more, all}
+use Rattle.numbers.proofs.PlacesLaws.{Written, none, one-more, two-more, all, tens-byte, ones-byte}
 use Rattle.numbers.proofs.write_places.Statement.{statement}
 use Rattle.numbers.proofs.write_places.Tie as tie
 
@@ -18,13 +18,16 @@ abbrev μ-loop : tie.MeasureT-loop
 loop-holds : tie.Need-loop-holds Inv-loop μ-loop
 loop-holds c = let a = c .before .args in none (a .out .now) (a .at) (a .count) (a .v) (c .before .pre)
 
+cast-out : tie.Need-cast-out Inv-loop μ-loop
+cast-out c = omega (arith, c .pair .ensures)
+
 slice-write-out-2 : tie.Need-slice-write-out-2 Inv-loop μ-loop
 slice-write-out-2 c = simp length-set (omega arith)
 
 loop-again : tie.Need-loop-again Inv-loop μ-loop
 loop-again c =
-    let l = c .before .before .before .loop in
-    two-more (c .before .before .loop-test .taken) (c .before .ones .ensures) (c .tens .ensures) (l .inv)
+    let p = c .pair .ensures in
+    two-more (c .before .loop-test .taken) (ones-byte (omega arith) p) (tens-byte (omega arith) p) (c .before .before .loop .inv)
 
 same-length : tie.Need-same-length Inv-loop μ-loop
 same-length c = c .before .before .loop .inv .long
@@ -43,7 +46,7 @@ returns-2 c =
 
 pub write-places-spec : {M : Type 1} → statement M
 write-places-spec =
-    tie.close (tie.spec Inv-loop μ-loop loop-holds (λ c. omega arith) (λ c κs. omega arith) (λ c. omega arith)
-    (λ c. omega arith) (λ c. omega arith) (λ c κs. omega arith) (λ c. omega arith) (λ c. omega arith) slice-write-out-2
+    tie.close (tie.spec Inv-loop μ-loop loop-holds (λ c. omega arith) (λ c κs. omega arith) cast-out (λ c. omega arith)
+    (λ c. omega arith) (λ c. omega arith) (λ c. omega arith) (λ c. omega arith) (λ c. omega arith) slice-write-out-2
     (λ c. omega arith) loop-again same-length returns (λ c. omega arith) (λ c. omega arith) (λ c. omega arith)
     same-length-2 returns-2)

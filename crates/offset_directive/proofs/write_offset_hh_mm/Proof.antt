@@ -13,7 +13,7 @@ returns : tie.Need-returns
 unfolding lengthOfForm
 returns c = let s = c .before .before .before .before .before .before .before .before .before .before .before .before in
     hour-then hh:mm _ _ _ (c .before .before .before .before .before .before .before .before .before .write-offset-hour .ensures)
-    (said (colon-minute _ _ (two-is (s .args .parts .minute) (omega (arith, s .pre .2 .minutes)) (c .before .before .before .before .before .tens .ensures) (c .before .before .before .before .ones .ensures))) (c .before .before .put .ensures _))
+    (said (colon-minute _ _ (two-is (s .args .parts .minute) (omega (arith, s .pre .1 .minutes)) (c .before .before .before .before .before .tens .ensures) (c .before .before .before .before .ones .ensures))) (c .before .before .put .ensures _))
 
 pub write-offset-hh-mm-spec : {M : Type 1} → statement M
 write-offset-hh-mm-spec =

@@ -14,8 +14,8 @@ unfolding lengthOfForm
 returns c = let s = c .before .before .before .before .before .before .before .before .before .before .before .before .before .before in
     hour-then hh:mm:ss _ _ _ (c .before .before .before .before .before .before .before .before .before .before .before .write-offset-hour .ensures)
     (said
-    (colons-minute-second _ _ (two-is (s .args .parts .minute) (omega (arith, s .pre .2 .minutes)) (c .before .before .before .before .before .before .before .tens .ensures) (c .before .before .before .before .before .before .ones .ensures))
-    (two-is (s .args .parts .second) (omega (arith, s .pre .2 .seconds)) (c .before .before .before .before .before .tens2 .ensures) (c .before .before .before .before .ones2 .ensures)))
+    (colons-minute-second _ _ (two-is (s .args .parts .minute) (omega (arith, s .pre .1 .minutes)) (c .before .before .before .before .before .before .before .tens .ensures) (c .before .before .before .before .before .before .ones .ensures))
+    (two-is (s .args .parts .second) (omega (arith, s .pre .1 .seconds)) (c .before .before .before .before .before .tens2 .ensures) (c .before .before .before .before .ones2 .ensures)))
     (c .before .before .put .ensures _))
 
 pub write-offset-hh-mm-ss-spec : {M : Type 1} → statement M

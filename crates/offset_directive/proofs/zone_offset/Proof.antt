@@ -26,7 +26,7 @@ cast-hours c = let k = below-hundred (short (c .before)) in record { fits = omeg
 
 write-short-requires : tie.Need-write-short-requires
 write-short-requires c κs = let small = small-parts _ _ _ (parts (c .before .before .before .before .before .before)) in
-    (c .before .before .before .before .before .before .before .before .pre .0, below-hundred (short (c .before .before)), small .minutes, small .seconds)
+    (c .before .before .before .before .before .before .before .before .pre, below-hundred (short (c .before .before)), small .minutes, small .seconds)
 
 returns : tie.Need-returns
 returns c =
@@ -43,7 +43,7 @@ returns c =
     (c .before .before .write-short .ensures _ _ told))
 
 write-long-requires : tie.Need-write-long-requires
-write-long-requires c κs = (c .before .before .before .before .before .pre .0, c .before .before .before .before .before .pre .1, small-parts _ _ _ (parts (c .before .before .before)))
+write-long-requires c κs = (c .before .before .before .before .before .pre, small-parts _ _ _ (parts (c .before .before .before)))
 
 returns-2 : tie.Need-returns-2
 returns-2 c = of-offset _ _ _ (parts (c .before .before .before .before .before .before)) _ _ _ (c .before .before .write-long .ensures _ (told-length (c .before .before .before .before .before)))

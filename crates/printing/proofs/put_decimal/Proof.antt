@@ -1,37 +1,87 @@
--- Fixed places, or the text.
-use mathlib.Core.Path.{refl, ap, _∙_}
-use native.Mathlib.Omega.{arith}
-use borrow.Author.Tests.{leb-true}
+-- The front of the printer's bytes alone, behind a run, or after the sign and a run.
+use mathlib.Core.Path.{sym, _∙_}
+use mathlib.Core.Logic.{inl, inr, ⊎-elim}
+use Prim.Native.Nat.{_≤_}
+use lib.ListN.{length}
+use lib.Seq.{length-take-le}
 use mir.Syntax.{w64}
 use mir.ValLaws.{toZ-ofZ}
-use Rattle.rules.specs.Decimal.{filled}
-use Rattle.numbers.proofs.Signed.{is-nat}
-use Rattle.text.proofs.RanLaws.{said}
-use Rattle.printing.specs.FillWith.{fillWith}
-use Rattle.printing.proofs.FilledLaws.{as-asked}
-use Rattle.printing.proofs.SignLaws.{fixed}
+use Rattle.numbers.proofs.Signed.{is-neg, is-pos}
+use Rattle.numbers.proofs.TextLaws.{text-within, text-some}
+use Rattle.text.proofs.RanLaws.{_then_, joined, said}
+use Rattle.printing.proofs.FilledLaws.{text-alone, text-behind, text-after-sign, as-asked}
 use borrow.Author.Needs.{needs}
 use Rattle.printing.proofs.put_decimal.Statement.{statement}
 use Rattle.printing.proofs.put_decimal.Tie as tie
 
-power-requires : tie.Need-power-requires
-power-requires c κs = omega (arith, leb-true)
+within : (c : tie.After-decimal-text) → c .decimal-text .result .count ≤ length (c .decimal-text .result .bytes)
+within c = let d = c .decimal-text .ensures in text-within _ _ _ _ (d .0) (d .1)
+
+some : (c : tie.After-decimal-text) → 1 ≤ c .decimal-text .result .count
+some c = let d = c .decimal-text .ensures in text-some _ _ _ _ (d .0) (d .1)
+
+array-share-prefix-bytes : tie.Need-array-share-prefix-bytes
+array-share-prefix-bytes c = within (c .before .before .before)
+
+slice-aggregate-put-few : tie.Need-slice-aggregate-put-few
+slice-aggregate-put-few c = sym (length-take-le _ _ (within (c .before .before .before .before)))
 
 returns : tie.Need-returns
 returns c =
-    let i = c .before .before .before .before in
-    let u = i .before .before in
-    let t = u .before in
-    let s = t .before .before .before .before .before in
-    let places = fixed w64 (s .fits .v) (is-nat w64 (s .args .v) (s .fits .v) (t .if4 .taken)) (u .unsigned-abs64 .ensures) (s .args .width) (omega (arith, leb-true)) (rw (i .before .power .ensures) at (i .if5 .taken)) in
-    λ limit. said (places ∙ as-asked (s .args .width) (t .before .before .before .if1 .taken) refl) (c .before .before .put-places .ensures limit)
+    let i = c .before .before .before .before .before in
+    let t = i .before .before in
+    let s = t .before .before in
+    let d = t .decimal-text .ensures in
+    λ limit. said (text-alone (toZ-ofZ w64 (s .args .v) (s .fits .v)) (s .args .width) (d .0) (d .1) _ (i .if1 .taken)) (c .before .before .put-few .ensures limit)
+
+sub-put-few : tie.Need-sub-put-few
+sub-put-few c = some (c .before .before .before .before .before .before .before .before .before .before .before .before .before .before)
+
+part-put-few-start : tie.Need-part-put-few-start
+part-put-few-start c = some (c .before .before .before .before .before .before .before .before .before .before .before .before .before .before .before)
+
+part-put-few-end : tie.Need-part-put-few-end
+part-put-few-end c = within (c .before .before .before .before .before .before .before .before .before .before .before .before .before .before .before)
 
 returns-2 : tie.Need-returns-2
 returns-2 c =
-    let s = c .before .before .before .before .before .before in
-    λ limit. said (ap (filled (fillWith (s .args .zeros)) (s .args .width)) (toZ-ofZ w64 (s .args .v) (s .fits .v))) (c .before .before .put-text .ensures limit)
+    let f = c .before .before in
+    let r = f .before .before .before .before .before .before in
+    let p = r .before .before .before .before in
+    let i = p .before .before .before in
+    let t = i .before .before .before .before in
+    let s = t .before .before in
+    let d = t .decimal-text .ensures in
+    let v = is-neg w64 (s .args .v) (s .fits .v) (i .if3 .taken) in
+    λ limit.
+    said (text-after-sign (toZ-ofZ w64 (s .args .v) (s .fits .v)) (s .args .width) (d .0) (d .1) v ∙ as-asked (s .args .width) (i .before .if2 .taken) v)
+    (joined (p .put .ensures limit then joined (r .run-short .ensures limit then f .put-few2 .ensures limit)))
+
+array-share-prefix-bytes-2 : tie.Need-array-share-prefix-bytes-2
+array-share-prefix-bytes-2 c = within (c .before .before .before .before .before .before .before .before .before)
+
+slice-aggregate-put-few-2 : tie.Need-slice-aggregate-put-few-2
+slice-aggregate-put-few-2 c = sym (length-take-le _ _ (within (c .before .before .before .before .before .before .before .before .before .before)))
+
+returns-3 : tie.Need-returns-3
+returns-3 c =
+    let f = c .before .before in
+    let r = f .before .before .before .before .before in
+    let b = r .before in
+    let j = b .before .before in
+    let t = j .before .before .before in
+    let s = t .before .before in
+    let d = t .decimal-text .ensures in
+    λ limit.
+    said
+    (text-behind (toZ-ofZ w64 (s .args .v) (s .fits .v)) (s .args .width) (d .0) (d .1) (s .args .zeros) (b .fill-byte .ensures)
+    (⊎-elim (λ k. inr (is-pos w64 (s .args .v) (s .fits .v) (k .1 .left))) (λ k. inl (k .left)) (j .if2 .came)))
+    (joined (r .run-short2 .ensures limit then f .put-few3 .ensures limit))
 
 pub put-decimal-spec : {M : Type 1} → statement M
 put-decimal-spec =
-    tie.close (tie.spec (λ c κs. search needs) power-requires (λ c. search needs) (λ c κs. search needs)
-    (λ c. search needs) returns (λ c κs. search needs) (λ c. search needs) returns-2)
+    tie.close (tie.spec (λ c κs. search needs) array-share-prefix-bytes slice-aggregate-put-few (λ c κs. search needs)
+    (λ c. search needs) returns (λ c. search needs) (λ c. search needs) (λ c κs. search needs) (λ c κs. search needs)
+    sub-put-few part-put-few-start part-put-few-end (λ c κs. search needs) (λ c. search needs) returns-2
+    (λ c κs. search needs) (λ c κs. search needs) array-share-prefix-bytes-2 slice-aggregate-put-few-2
+    (λ c κs. search needs) (λ c. search needs) returns-3)

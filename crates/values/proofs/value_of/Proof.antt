@@ -1,15 +1,14 @@
--- Each arm is one of three laws: of no field, of one field, of the week's fields. What else its calls ask is found by search.
+-- Each arm is one of three laws, of no field, of one field, of the week's fields, or is `iso_value`. What else its calls ask is found by search.
 use mathlib.Core.Path.{refl, ap, _∙_}
 use native.Mathlib.Omega.{arith}
 use lib.IntN.{ℤ, pos}
 use mir.Syntax.{w32, w64}
 use mir.ValLaws.{toZ-ofZ, toZ-pos}
 use borrow.Author.Needs.{needs}
-use Rattle.rules.specs.declared.IsoWeek.{IsoWeek}
 use Rattle.rules.specs.Decimal.{floorDiv, floorMod}
 use Rattle.rules.specs.Writing.{valueOf, defaultWidth, fillOf, numberFields}
 use Rattle.numbers.proofs.Signed.{widens, widened}
-use Rattle.values.proofs.Laws.{weekly, unchecked, checked, week-checked}
+use Rattle.values.proofs.Laws.{of-iso-week, unchecked, checked, week-checked}
 use Rattle.values.proofs.value_of.Statement.{statement}
 use Rattle.values.proofs.value_of.Tie as tie
 
@@ -101,42 +100,24 @@ returns-15 : tie.Need-returns-15
 unfolding valueOf defaultWidth fillOf numberFields
 returns-15 c = checked (c .before .before .enum-told15 .given .1) refl refl (c .before .day-of-week2 .ensures) refl (c .zeros9 .ensures)
 
--- YearIso8601
+-- YearIso8601, YearIso8601Rem100, WeekNumberIso8601
 returns-16 : tie.Need-returns-16
-unfolding valueOf defaultWidth fillOf numberFields
-returns-16 c =
-    let iso = c .before .before .iso in
-    let year = toZ-ofZ w64 (iso .result .year) (omega arith) in
-    week-checked (c .before .before .before .before .enum-told16 .given .1) refl refl (λ w. year ∙ ap (λ (i : IsoWeek). i .year) (iso .ensures w)) (weekly (c .before .before .before .week .ensures) (c .year2 .ensures))
-
--- YearIso8601Rem100
-returns-17 : tie.Need-returns-17
-unfolding valueOf defaultWidth fillOf numberFields
-returns-17 c =
-    let iso = c .before .before .before .iso2 in
-    let year = toZ-ofZ w64 (iso .result .year) (omega arith) in
-    let rem = c .before .rem-euclid-100-wide .ensures ∙ ap (λ (y : ℤ). floorMod y 100) year in
-    week-checked (c .before .before .before .before .enum-told17 .given .1) refl refl (λ w. ap pos (rem ∙ ap (λ (i : IsoWeek). floorMod (i .year) 100) (iso .ensures w))) (c .weekly .ensures)
-
--- WeekNumberIso8601
-returns-18 : tie.Need-returns-18
-unfolding valueOf defaultWidth fillOf numberFields
-returns-18 c = week-checked (c .before .before .enum-told18 .given .1) refl refl (λ w. ap (λ (i : IsoWeek). pos (i .week)) (c .before .iso3 .ensures w)) (c .weekly2 .ensures)
+returns-16 c = c .iso-value .ensures (of-iso-week _ (c .before .match .keys16))
 
 -- WeekNumberFromSunday
-returns-19 : tie.Need-returns-19
+returns-17 : tie.Need-returns-17
 unfolding valueOf defaultWidth fillOf numberFields
-returns-19 c = week-checked (c .before .before .enum-told19 .given .1) refl refl (λ w. ap pos (c .before .week-of .ensures w)) (c .weekly3 .ensures)
+returns-17 c = week-checked (c .before .before .enum-told16 .given .1) refl refl (λ w. ap pos (c .before .week-of .ensures w)) (c .weekly .ensures)
 
 -- WeekNumberFromMonday
-returns-20 : tie.Need-returns-20
+returns-18 : tie.Need-returns-18
 unfolding valueOf defaultWidth fillOf numberFields
-returns-20 c = week-checked (c .before .before .enum-told20 .given .1) refl refl (λ w. ap pos (c .before .week-of2 .ensures w)) (c .weekly4 .ensures)
+returns-18 c = week-checked (c .before .before .enum-told17 .given .1) refl refl (λ w. ap pos (c .before .week-of2 .ensures w)) (c .weekly2 .ensures)
 
 -- SecondsSinceEpoch
-returns-21 : tie.Need-returns-21
+returns-19 : tie.Need-returns-19
 unfolding valueOf defaultWidth fillOf numberFields
-returns-21 c = unchecked (c .before .before .enum-told21 .given .1) refl refl (toZ-ofZ w64 (c .before .before .before .before .args .«record» .«to_int») (omega arith)) (c .wide3 .ensures)
+returns-19 c = unchecked (c .before .before .enum-told18 .given .1) refl refl (toZ-ofZ w64 (c .before .before .before .before .args .«record» .«to_int») (omega arith)) (c .wide3 .ensures)
 
 pub value-of-spec : {M : Type 1} → statement M
 value-of-spec =
@@ -150,9 +131,7 @@ value-of-spec =
     (λ c κs. search needs) (λ c κs. search needs) (λ c. search needs) (λ c κs. search needs) (λ c κs. search needs)
     (λ c. search needs) (λ c κs. search needs) (λ c κs. search needs) (λ c. search needs) (λ c κs. search needs)
     (λ c κs. search needs) (λ c κs. search needs) (λ c. search needs) (λ c κs. search needs) (λ c κs. search needs)
-    (λ c. search needs) (λ c κs. search needs) (λ c κs. search needs) (λ c κs. search needs) (λ c. search needs)
-    (λ c κs. search needs) (λ c κs. search needs) (λ c κs. search needs) (λ c. search needs) (λ c κs. search needs)
     (λ c κs. search needs) (λ c. search needs) (λ c κs. search needs) (λ c κs. search needs) (λ c. search needs)
     (λ c κs. search needs) (λ c κs. search needs) (λ c. search needs) (λ c κs. search needs) returns returns-2 returns-3
     returns-4 returns-5 returns-6 returns-7 returns-8 returns-9 returns-10 returns-11 returns-12 returns-13 returns-14
-    returns-15 returns-16 returns-17 returns-18 returns-19 returns-20 returns-21)
+    returns-15 returns-16 returns-17 returns-18 returns-19)

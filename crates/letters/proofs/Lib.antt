@@ -1,0 +1,4 @@
+pub mod ArmLaws
+pub mod LeafLaws
+pub mod LetterLaws
+pub mod ShortLaws
