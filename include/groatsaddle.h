@@ -1,5 +1,5 @@
 /* Groatsaddle: format bytes and a flat time record go in, text comes out in a buffer that the caller lends. The record
-   can be had from a count of seconds.
+   can be had from a count of seconds, and the format can come in runs.
 
    Link libgroatsaddle.a (-lgroatsaddle), which `rt staticlib groatsaddle` writes to target/staticlib, for x86-64. It
    calls memcpy and memset, which a C compiler's programs have, and nothing else. gs_format takes some 24 KB of code and
@@ -15,8 +15,8 @@
 
    Nothing is allocated and no state is kept: any number of threads may call at once, as long as nobody changes what is
    lent while the call runs. So may an interrupt, if the registers of the float unit are saved for it: the offset's hour
-   is a floating point number. The deepest stack that was seen is 1,136 bytes, of gs_format; that is what was seen by
-   running it, not a bound that is proved. */
+   is a floating point number. The deepest stack that was seen is 1,304 bytes, of gs_format, and 1,400 of a format in
+   runs; that is what was seen by running it, not a bound that is proved. */
 
 #ifndef GROATSADDLE_H
 #define GROATSADDLE_H
@@ -38,6 +38,7 @@ extern "C" {
 #define gs_LONGEST_FORMAT 4096
 #define gs_LONGEST_ZONE 64
 #define gs_LONGEST_BUFFER 65536
+#define gs_LONGEST_RUN 32
 
 /* What `refusal` of an answer can be. */
 enum {
@@ -50,14 +51,16 @@ enum {
     gs_INVALID_FORMAT_STRING = 2,
     /* FormattedStringTooLarge: padding would take the text past 524,288 bytes for each byte of the format. */
     gs_FORMATTED_STRING_TOO_LARGE = 3,
-    /* WriteZero: the buffer is too short for the text. */
+    /* WriteZero: the buffer is too short for the text, or the store for the format. */
     gs_WRITE_ZERO = 4,
     /* InputTooLong: an input is longer than the lengths above. It comes before every other refusal. */
     gs_INPUT_TOO_LONG = 5,
     /* NoBuffer, of gs_size only: some record with all fields in range has its text in no buffer of 65,536 bytes. */
     gs_NO_BUFFER = 6,
     /* OutOfRange, of gs_record_from_count only: count plus offset leaves an int64_t, or its year an int32_t. */
-    gs_OUT_OF_RANGE = 7
+    gs_OUT_OF_RANGE = 7,
+    /* LengthMismatch, of a format in runs only: the runs bring more bytes than the total that was said, or fewer. */
+    gs_LENGTH_MISMATCH = 10
 };
 
 /* The fields are independent: nothing asks that the weekday and the date agree. A field is checked where a directive
@@ -138,6 +141,97 @@ gs_dated gs_record_from_count(int64_t count, int32_t utc_offset, uint32_t nanose
 
    Refused with gs_INVALID_TIME: a date that does not exist, an hour above 23, a minute or a second above 59. */
 gs_counted gs_count_from_record(gs_record record);
+
+/* A format that arrives in runs: its total length first, then runs of 0 to 32 bytes, then the end. However it is cut,
+   the answer and the text are those of gs_format for the whole format. Text is written as it is read: a byte that
+   stands for itself at once, a directive with its last byte.
+
+   A first use, with a format that comes over a bus:
+
+       uint8_t run[gs_LONGEST_RUN], store[256], line[80];
+       size_t n;
+       gs_runs runs = gs_runs_start(bus_total(), NULL, 0, store, sizeof store, line, sizeof line);
+       while (bus_run(run, &n))
+           runs = gs_runs_run(runs, run, n, NULL, 0, record, store, sizeof store, line, sizeof line);
+       runs = gs_runs_end(runs, NULL, 0, record, store, sizeof store, line, sizeof line);
+       gs_progress answer = gs_runs_answer(runs);
+       if (!answer.more && answer.refusal == gs_DONE)
+           printf("%.*s\n", (int)answer.length, (const char *)line);
+
+   The answer may be asked for after any call, and need not be: a call after a refusal, or after the end, changes
+   nothing and gives the same answer again.
+
+   The store is where the library keeps the bytes of a directive that is not yet wholly read. It must have at least as
+   many bytes as the format, gs_LONGEST_FORMAT for any. What stands in it at first doesn't matter.
+
+   Zone name, record, store and buffer must be the same through all calls, and the caller leaves store and buffer alone
+   between them: that is what the equality with gs_format is for. Each call looks at what it is lent anew, so that
+   another one, a changed one, or numbers that no call has given can do no harm: what is then written may be another
+   text, but it stands in the buffer that this call is lent, and nowhere else but in that store. */
+
+/* What is handed from call to call. The numbers are the library's; the last call's are the ones to pass on. */
+typedef struct {
+    size_t total;   /* bytes of the format, as gs_runs_start was told */
+    size_t passed;  /* bytes of it that are read for good */
+    size_t kept;    /* bytes of it in the store: those of a directive that is not yet wholly read */
+    size_t written; /* bytes of text in the buffer so far, where refused too */
+    size_t number;  /* of the refusal; 0: none */
+    uint8_t over;   /* 0: the end was not called; any other value: it was */
+} gs_runs;
+
+typedef struct {
+    uint32_t refusal; /* gs_DONE, or why there is no whole text */
+    uint8_t more;     /* 1: neither done nor refused, more is to come; else 0 */
+    size_t length;    /* bytes of text where done, that is where refusal and more are 0; else 0 */
+} gs_progress;
+
+typedef char gs_runs_layout[
+    sizeof(size_t) == 8 && sizeof(gs_runs) == 48 && offsetof(gs_runs, number) == 32 && offsetof(gs_runs, over) == 40 &&
+    sizeof(gs_progress) == 16 && offsetof(gs_progress, more) == 4 && offsetof(gs_progress, length) == 8 ? 1 : -1];
+
+/* The first call: the bytes of the whole format, and what the later calls will be lent. No byte of zone name, store or
+   buffer is read or written; their lengths count. A pointer whose length is 0 may be NULL, here and below.
+
+   Refused, in this order: gs_INPUT_TOO_LONG (total, zone name or buffer), gs_WRITE_ZERO (the store is shorter than the
+   total). */
+gs_runs gs_runs_start(size_t total,
+                      const uint8_t *zone, size_t zone_len,
+                      const uint8_t *store, size_t store_len,
+                      const uint8_t *buffer, size_t buffer_len);
+
+/* The next run, of 0 to 32 bytes. Store and buffer must overlap neither each other nor anything else that is lent.
+
+   Refused, in this order:
+   - gs_INPUT_TOO_LONG: a run of more than 32 bytes; zone name or buffer are looked at again. Nothing of it is read.
+   - gs_LENGTH_MISMATCH: the run passes the total. Nothing of it is read.
+   - gs_WRITE_ZERO, if another store or buffer is lent than before and is too short. Nothing of the run is read.
+   - by place in the format, what gs_format refuses.
+
+   What stands in the buffer then:
+   - after gs_WRITE_ZERO of the text, the longest part of it, from its start, that fits: the buffer is full;
+   - after any other refusal, the text before what failed, and nothing of a directive that is not yet wholly read. A
+     directive that fails has written what it writes before it fails, as the blanks of "%20D" before a month 13;
+   - in each case, and after each call, every byte behind `written` is as it was. */
+gs_runs gs_runs_run(gs_runs runs,
+                    const uint8_t *bytes, size_t bytes_len,
+                    const uint8_t *zone, size_t zone_len,
+                    gs_record record,
+                    uint8_t *store, size_t store_len,
+                    uint8_t *buffer, size_t buffer_len);
+
+/* The end of the format. What is in the store is read as its end; the store is not changed.
+
+   Refused, in this order: gs_INPUT_TOO_LONG (as for a run), gs_LENGTH_MISMATCH (the runs brought fewer bytes than the
+   total), gs_WRITE_ZERO (another buffer, too short), then by place what gs_format refuses at the end of a format. The
+   buffer is then as for a run. */
+gs_runs gs_runs_end(gs_runs runs,
+                    const uint8_t *zone, size_t zone_len,
+                    gs_record record,
+                    const uint8_t *store, size_t store_len,
+                    uint8_t *buffer, size_t buffer_len);
+
+/* What the last call answered. A number that is none of the table reads as gs_WRITE_ZERO. */
+gs_progress gs_runs_answer(gs_runs runs);
 
 #ifdef __cplusplus
 }

@@ -11,6 +11,10 @@ mod lot;
 mod plain;
 #[path = "../compare/record.rs"]
 mod record;
+mod runs;
+#[path = "../compare/runs_library.rs"]
+#[allow(dead_code)]
+mod runs_library;
 mod stack;
 
 use library::FlatRecord;
@@ -63,6 +67,9 @@ fn main() -> ExitCode {
             print_million(&times);
         }
         print_times(name, &times);
+    }
+    for (name, format) in &formats[..3] {
+        runs::print_times(name, &runs::race(format.as_bytes(), &records, WINDOWS));
     }
     let counts: Vec<i64> = records.iter().map(|record| record.to_int).collect();
     counter::print_times(&counter::race(&counts, WINDOWS));
@@ -244,6 +251,12 @@ fn with_library(format: &[u8], record: FlatRecord, buffer: &mut [u8]) {
 }
 
 #[inline(never)]
+fn with_runs(format: &[u8], record: FlatRecord, buffer: &mut [u8]) {
+    let (store, line) = buffer.split_at_mut(library::LONGEST_FORMAT);
+    black_box(runs::by_runs(format, runs::SHORT, record, store, line));
+}
+
+#[inline(never)]
 fn with_plain(format: &[u8], record: FlatRecord, buffer: &mut [u8]) {
     let _ = black_box(plain::format(format, ZONE, record, buffer));
 }
@@ -283,8 +296,9 @@ fn print_stacks(timed: &[&str], sales: &[FlatRecord]) {
         "deepest stack over {} formats, in bytes, and its format",
         formats.len()
     );
-    let formatters: [(&str, Formatter); 3] = [
+    let formatters: [(&str, Formatter); 4] = [
         ("library", with_library),
+        ("library, in runs", with_runs),
         ("plain", with_plain),
         ("original", with_original),
     ];

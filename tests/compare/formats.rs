@@ -30,7 +30,7 @@ pub fn any_format(lot: &mut Lot) -> Vec<u8> {
     format
 }
 
-fn pieces(lot: &mut Lot, format: &mut Vec<u8>, most: usize) {
+pub fn pieces(lot: &mut Lot, format: &mut Vec<u8>, most: usize) {
     for _ in 0..lot.below(most + 1) {
         if lot.once_in(4) {
             literal(lot, format);
@@ -65,7 +65,7 @@ fn directive(lot: &mut Lot, format: &mut Vec<u8>) {
     ending(lot, format);
 }
 
-fn flags(lot: &mut Lot, format: &mut Vec<u8>) {
+pub fn flags(lot: &mut Lot, format: &mut Vec<u8>) {
     while lot.below(5) < 2 {
         format.push(lot.one_of(b"-_0^#"));
     }
@@ -105,7 +105,7 @@ fn width(lot: &mut Lot, format: &mut Vec<u8>) {
 }
 
 /// Modifier, colons and letter, or something in their place.
-fn ending(lot: &mut Lot, format: &mut Vec<u8>) {
+pub fn ending(lot: &mut Lot, format: &mut Vec<u8>) {
     if lot.once_in(12) {
         format.push(lot.one_of(b"EO"));
     }
@@ -193,7 +193,7 @@ fn near_the_longest_format(lot: &mut Lot, format: &mut Vec<u8>) {
     format.truncate(length);
 }
 
-fn cut(lot: &mut Lot, format: &mut Vec<u8>) {
+pub fn cut(lot: &mut Lot, format: &mut Vec<u8>) {
     format.push(b'%');
     flags(lot, format);
     width(lot, format);

@@ -28,7 +28,7 @@ impl Case<'_> {
     }
 
     /// The case as a line of the stored list, up to the answer.
-    fn line(&self) -> String {
+    pub fn line(&self) -> String {
         let r = &self.record;
         format!(
             "{} {} {} {} {} {} {} {} {} {} {} {} {} {} {}",

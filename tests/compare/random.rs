@@ -28,7 +28,7 @@ pub fn try_random(judge: &mut Judge, seed: u64, count: u64) {
     }
 }
 
-fn any_zone(lot: &mut Lot) -> Vec<u8> {
+pub fn any_zone(lot: &mut Lot) -> Vec<u8> {
     match lot.below(16) {
         0 => high_zone(lot, LONGEST_ZONE),
         1 if lot.once_in(8) => ascii_zone(lot, LONGEST_ZONE + 2),
@@ -37,7 +37,7 @@ fn any_zone(lot: &mut Lot) -> Vec<u8> {
 }
 
 /// Mostly near the length that the text needs, or comes to before it is refused.
-fn any_room(lot: &mut Lot, reach: usize) -> usize {
+pub fn any_room(lot: &mut Lot, reach: usize) -> usize {
     let room = match lot.below(16) {
         0..=8 => (reach + lot.below(5)).saturating_sub(2),
         9..=11 => lot.below(reach + 1),

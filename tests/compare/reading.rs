@@ -14,7 +14,7 @@ pub fn ends_inside(format: &[u8], mut letter: impl FnMut(u8)) -> bool {
 }
 
 /// The letter of a directive, from behind its `%`, and what follows. An echo may have none. Nothing if the format ends inside it.
-fn directive(rest: &[u8]) -> Option<(Option<u8>, &[u8])> {
+pub fn directive(rest: &[u8]) -> Option<(Option<u8>, &[u8])> {
     let rest = behind(rest, |byte| b"-_0^#".contains(&byte));
     if rest.first().is_some_and(|byte| !byte.is_ascii()) {
         return Some((None, rest));

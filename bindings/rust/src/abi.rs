@@ -59,6 +59,25 @@ pub(crate) struct Counted {
     pub count: i64,
 }
 
+#[repr(C)]
+#[derive(Clone, Copy)]
+pub(crate) struct Runs {
+    pub total: usize,
+    pub passed: usize,
+    pub kept: usize,
+    pub written: usize,
+    pub number: usize,
+    pub over: u8,
+}
+
+#[repr(C)]
+#[derive(Clone, Copy)]
+pub(crate) struct Progress {
+    pub refusal: u32,
+    pub more: u8,
+    pub length: usize,
+}
+
 extern "C" {
     pub(crate) fn gs_format(
         format: *const u8,
@@ -80,4 +99,40 @@ extern "C" {
     ) -> Dated;
 
     pub(crate) fn gs_count_from_record(record: Record) -> Counted;
+
+    pub(crate) fn gs_runs_start(
+        total: usize,
+        zone: *const u8,
+        zone_len: usize,
+        store: *const u8,
+        store_len: usize,
+        buffer: *const u8,
+        buffer_len: usize,
+    ) -> Runs;
+
+    pub(crate) fn gs_runs_run(
+        runs: Runs,
+        bytes: *const u8,
+        bytes_len: usize,
+        zone: *const u8,
+        zone_len: usize,
+        record: Record,
+        store: *mut u8,
+        store_len: usize,
+        buffer: *mut u8,
+        buffer_len: usize,
+    ) -> Runs;
+
+    pub(crate) fn gs_runs_end(
+        runs: Runs,
+        zone: *const u8,
+        zone_len: usize,
+        record: Record,
+        store: *const u8,
+        store_len: usize,
+        buffer: *mut u8,
+        buffer_len: usize,
+    ) -> Runs;
+
+    pub(crate) fn gs_runs_answer(runs: Runs) -> Progress;
 }

@@ -1,6 +1,6 @@
 use core::fmt;
 
-/// Why there is no text, no record or no count. The original's names, and three that are added.
+/// Why there is no text, no record or no count. The original's names, and four that are added.
 #[derive(Debug, Clone, Copy, PartialEq, Eq)]
 #[non_exhaustive]
 pub enum Error {
@@ -11,9 +11,10 @@ pub enum Error {
     InvalidFormatString,
     /// Padding would take the text past 524,288 bytes for each byte of the format.
     FormattedStringTooLarge,
-    /// The buffer is too short for the text.
+    /// The buffer is too short for the text, or the store for the format.
     WriteZero,
-    /// The format, the zone name or the buffer is longer than the library takes. Not the original's.
+    /// The format, a run of it, the zone name or the buffer is longer than the library takes. Not the
+    /// original's.
     InputTooLong,
     /// No buffer that the library takes is long enough for every record. Not the original's; only
     /// sizing gives it.
@@ -21,6 +22,9 @@ pub enum Error {
     /// Local time or its year is beyond what a record holds. Not the original's; only a record from a
     /// count gives it.
     OutOfRange,
+    /// The runs of a format bring more bytes than were said, or fewer. Not the original's; only
+    /// [`Runs`](crate::Runs) gives it.
+    LengthMismatch,
 }
 
 impl Error {
@@ -33,6 +37,7 @@ impl Error {
             5 => Error::InputTooLong,
             6 => Error::NoBuffer,
             7 => Error::OutOfRange,
+            10 => Error::LengthMismatch,
             other => unreachable!("the library has no refusal {other}"),
         }
     }
@@ -48,6 +53,7 @@ impl fmt::Display for Error {
             Error::InputTooLong => "input too long",
             Error::NoBuffer => "no buffer is long enough",
             Error::OutOfRange => "out of range",
+            Error::LengthMismatch => "length mismatch",
         })
     }
 }

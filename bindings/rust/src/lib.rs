@@ -30,7 +30,8 @@
 //! # Ok::<(), groatsaddle::Error>(())
 //! ```
 //!
-//! A [`Record`] is such a time too, and is made from a count of seconds.
+//! A [`Record`] is such a time too, and is made from a count of seconds. [`Runs`] takes a format that
+//! arrives in parts.
 //!
 //! Text and errors are the original's, but for these: an error changes no byte of the buffer, every
 //! method of [`Time`] is called once whatever the format reads, and longer inputs than
@@ -43,11 +44,13 @@ mod abi;
 pub mod buffered;
 mod error;
 mod record;
+mod runs;
 mod size;
 mod time;
 
 pub use error::Error;
 pub use record::Record;
+pub use runs::Runs;
 pub use size::size;
 pub use time::Time;
 
@@ -57,6 +60,8 @@ pub const LONGEST_FORMAT: usize = 4096;
 pub const LONGEST_ZONE: usize = 64;
 /// The longest buffer, in bytes.
 pub const LONGEST_BUFFER: usize = 65_536;
+/// The longest run of a format, in bytes.
+pub const LONGEST_RUN: usize = 32;
 
 /// Format string used by Ruby's `Time#asctime`.
 pub const ASCTIME_FORMAT_STRING: &str = "%c";

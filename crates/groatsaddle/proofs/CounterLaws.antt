@@ -1,6 +1,6 @@
 -- What crosses to a C caller of the counter's entries, and that any two answers are equal.
-use mathlib.Core.Path.{_≡_, refl, sym, ap, _∙_}
-use mathlib.Core.Bool.{Bool, true, false, cond, not}
+use mathlib.Core.Path.{_≡_, sym, ap, _∙_}
+use mathlib.Core.Bool.{not}
 use Prim.Native.Nat.{ℕ}
 use lib.Dec.{eqb}
 use lib.IntN.{ℤ, pos}
@@ -18,10 +18,7 @@ use Rattle.groatsaddle.specs.declared.GsRecord.{GsRecord}
 use Rattle.groatsaddle.specs.declared.GsDated.{GsDated}
 use Rattle.groatsaddle.specs.declared.GsCounted.{GsCounted}
 use Rattle.groatsaddle.specs.Entries.{recordFrom, gsRecordOf, recordTo, noRecord, datedTo, countedTo, GsDatedBy, GsCountedBy}
-
-byte-is : (b : Bool) → boolByte b ≡ cond b 1 0
-byte-is true = refl
-byte-is false = refl
+use Rattle.groatsaddle.proofs.Laws.{byte-is}
 
 -- the record, whose signed fields are read back from their bits
 pub same-record-to : (r : Record) {y t o : ℤ} → y ≡ r .year → t ≡ r .«to_int» → o ≡ r .«utc_offset» →

@@ -1,6 +1,6 @@
 -- What crosses to a C caller: the record, the length, the answer.
 use mathlib.Core.Path.{_≡_, refl, _∙_}
-use mathlib.Core.Bool.{Bool, not}
+use mathlib.Core.Bool.{Bool, true, false, cond, not}
 use mathlib.Core.List.{List}
 use Prim.Native.Nat.{ℕ, _≤_}
 use native.Mathlib.Decide.{decLe}
@@ -8,6 +8,7 @@ use native.Mathlib.Omega.{arith}
 use lib.Dec.{eqb}
 use lib.ListN.{length}
 use lib.IntN.{ℤ}
+use mir.Val.{boolByte}
 use Rattle.rules.specs.declared.Record.{Record}
 use Rattle.rules.specs.declared.Refusal.{Refusal}
 use Rattle.rules.specs.declared.Answer.{Answer}
@@ -29,6 +30,11 @@ pub same-record : (r : GsRecord) {y t o : ℤ} {u : Bool} → y ≡ r .year → 
     recordOf y (r .month) (r .day) (r .hour) (r .minute) (r .second) (r .nanoseconds) (r .«day_of_week») (r .«day_of_year») t u o ≡ recordFrom r
 unfolding recordFrom
 same-record r a b c d = cc
+
+-- a yes or no, as the byte that it is cast to
+pub byte-is : (b : Bool) → boolByte b ≡ cond b 1 0
+byte-is true = refl
+byte-is false = refl
 
 -- ## The length
 

@@ -1,4 +1,11 @@
-// The entries over the C ABI: lib.rs of the original, sizing, and a record from a count and back. `include/groatsaddle.h` declares them.
+// The entries over the C ABI: lib.rs of the original, sizing, a record from a count and back, and a format in runs.
+// `include/groatsaddle.h` declares them.
+mod by_runs;
+
+pub use by_runs::gs_runs_answer;
+pub use by_runs::gs_runs_end;
+pub use by_runs::gs_runs_run;
+pub use by_runs::gs_runs_start;
 ghost use mathlib.Core.Path.{_≡_};
 ghost use Prim.Native.Nat.{_≤_};
 ghost use lib.ListN.{length};

@@ -17,6 +17,7 @@ use Rattle.rules.specs.declared.Dated.{Dated}
 use Rattle.rules.specs.declared.Dated.the-variants as of-dated
 use Rattle.rules.specs.declared.Counted.{Counted}
 use Rattle.rules.specs.declared.Counted.the-variants as of-counted
+use Rattle.rules.specs.Refusal.{refusalAt}
 use Rattle.rules.specs.Record.{InI32, InI64, month, day, hour, minute, second, nanoseconds, weekday, dayOfYear, zoneName, zoneOk, within, okField, InRange}
 use Rattle.rules.specs.Decimal.{floorDiv}
 use Rattle.rules.specs.Calendar.{leapDay, daysIn, Exists, yearDay, dayNumber, weekdayOf, DateOf}
@@ -24,7 +25,7 @@ use Rattle.rules.specs.Counter.{Reply, datedReply, countedReply, seconds
 use Rattle.rules.specs.Writing.{fieldsOf, verdict, verdictOf}
 use Rattle.rules.specs.Size.{Typed}
 use Rattle.rules.proofs.FloorLaws.{mod-below, div-mod}
-use Rattle.rules.proofs.OneAnswer.{refusalAt, refusal-at}
+use Rattle.rules.proofs.OneAnswer.{refusal-at}
 use Rattle.rules.proofs.RecordLaws.{all-ok}
 use Rattle.rules.proofs.Shift.{Is, is-pos, is-add, is-minus, is-times, within-shift, shift-within}
 use Rattle.rules.proofs.YearLaws.{leap-day-to}

@@ -27,7 +27,7 @@ by-event number g = inl g
 numbered-format : (format zone : List ℕ) (r : Record) (room : ℕ) → Numbered InTable (formatEvents format zone r room)
 unfolding formatEvents Numbered
 numbered-format format zone r room =
-    (λ e. inr refl, (λ e. inr refl, (λ e. inr refl, numbered-items InTable by-event r zone (items format))))
+    (λ e. inr refl, (λ e. inr refl, (λ e. inr refl, numbered-items InTable (λ number g h. by-event number g) r zone (items format))))
 
 -- "Any format, record, zone name and buffer gets a length or one refusal from the table"
 pub text-or-refusal : (format zone : List ℕ) (r : Record) (room : ℕ) →

@@ -2,6 +2,7 @@
 use mathlib.Core.Path.{_≡_, refl}
 use mathlib.Core.Bool.{Bool, true, false}
 use mathlib.Core.List.{List, [], _∷_, _++_, map}
+use mathlib.Core.Logic.{_≢_}
 use Prim.Native.Nat.{ℕ, _≤_, _<_}
 use borrow.Author.Tests.{le-leb, lt-leb}
 use lib.Dec.{eqb}
@@ -58,7 +59,8 @@ module _ (Given : ℕ → Type 0) where
 never : {A : Type 0} → true ≡ false → A
 never e = let z : _≡_ {A = ℕ} 0 1 = cc in absurd (omega arith)
 
-module _ (Given : ℕ → Type 0) (every : (number : ℕ) → ByEvent number → Given number) where
+-- no check is 4
+module _ (Given : ℕ → Type 0) (every : (number : ℕ) → ByEvent number → number ≢ 4 → Given number) where
   numbered-join : (xs ys : List Event) → Numbered Given xs → Numbered Given ys → Numbered Given (xs ++ ys)
   unfolding Numbered
   numbered-join [] ys h k = k
@@ -73,7 +75,7 @@ module _ (Given : ℕ → Type 0) (every : (number : ℕ) → ByEvent number →
   verdict-given : (inRange : Bool) → eqb (verdict inRange) 0 ≡ false → Given (verdict inRange)
   unfolding verdict
   verdict-given true e = never e
-  verdict-given false e = every 1 invalid-time
+  verdict-given false e = every 1 invalid-time (λ e. omega arith)
 
   numbered-piece : (r : Record) (zone : List ℕ) (p : Piece) → Numbered Given (eventsOf r zone p)
   unfolding eventsOf specEvents verdictOf Numbered
@@ -86,7 +88,7 @@ module _ (Given : ℕ → Type 0) (every : (number : ℕ) → ByEvent number →
   numbered-item r zone (literal b) = tt
   numbered-item r zone (echo text) = tt
   numbered-item r zone (directive p) = numbered-piece r zone p
-  numbered-item r zone cut = (λ e. every 2 invalid-format-string, tt)
+  numbered-item r zone cut = (λ e. every 2 invalid-format-string (λ e. omega arith), tt)
 
   pub numbered-items : (r : Record) (zone : List ℕ) (is : List Item) → Numbered Given (events (eventsOf r zone) is)
   unfolding events Numbered
@@ -94,7 +96,8 @@ module _ (Given : ℕ → Type 0) (every : (number : ℕ) → ByEvent number →
   numbered-items r zone (i ∷ is) =
       numbered-join (itemEvents (eventsOf r zone) i) (events (eventsOf r zone) is) (numbered-item r zone i) (numbered-items r zone is)
 
-  -- so a refusal has one
+-- so a refusal has one
+module _ (Given : ℕ → Type 0) (every : (number : ℕ) → ByEvent number → Given number) where
   pub tally-ok : (limit room : ℕ) (es : List Event) (c : Count) → Numbered Given es → CountOk Given c → CountOk Given (tally limit room es c)
   unfolding tally one Numbered
   tally-ok limit room [] c h k = k

@@ -7,24 +7,14 @@ use lib.Dec.{eqb}
 use lib.ListN.{length}
 use Rattle.rules.specs.declared.Record.{Record}
 use Rattle.rules.specs.declared.Refusal.{Refusal}
-use Rattle.rules.specs.declared.Refusal.the-variants.{InvalidTime, InvalidFormatString, FormattedStringTooLarge, WriteZero, InputTooLong, NoBuffer, OutOfRange}
+use Rattle.rules.specs.declared.Refusal.the-variants.{InvalidTime, InvalidFormatString, FormattedStringTooLarge, WriteZero, InputTooLong, NoBuffer, OutOfRange, LengthMismatch}
 use Rattle.rules.specs.declared.Answer.{Answer}
 use Rattle.rules.specs.declared.Answer.the-variants.{Done, Refused}
-use Rattle.rules.specs.Refusal.{numberOf, Report, numbered}
+use Rattle.rules.specs.Refusal.{numberOf, refusalAt, ByEvent, invalid-time, invalid-format-string, formatted-string-too-large, write-zero, Report, numbered}
 use Rattle.rules.specs.Event.{reported, bufferAfter}
 use Rattle.rules.specs.Format.{formatted}
 
--- back from a number of the table, and from a report
-unfoldable pub refusalAt : ℕ → Refusal
-refusalAt n =
-    cond (eqb n 1) InvalidTime
-    (cond (eqb n 2) InvalidFormatString
-    (cond (eqb n 3) FormattedStringTooLarge
-    (cond (eqb n 4) WriteZero
-    (cond (eqb n 5) InputTooLong
-    (cond (eqb n 6) NoBuffer
-    OutOfRange)))))
-
+-- a refusal's number leads back to it
 pub refusal-at : (e : Refusal) → (eqb (numberOf e) 0 ≡ false) × (refusalAt (numberOf e) ≡ e)
 unfolding refusalAt numberOf
 refusal-at InvalidTime = (refl, refl)
@@ -34,7 +24,25 @@ refusal-at WriteZero = (refl, refl)
 refusal-at InputTooLong = (refl, refl)
 refusal-at NoBuffer = (refl, refl)
 refusal-at OutOfRange = (refl, refl)
+refusal-at LengthMismatch = (refl, refl)
 
+-- a number of the table
+abbrev pub OfTable : ℕ → Type 0
+OfTable number = (r : Refusal) × (numberOf r ≡ number)
+
+pub number-known : {number : ℕ} → OfTable number → (eqb number 0 ≡ false) × (numberOf (refusalAt number) ≡ number)
+number-known (r, e) =
+    let k = refusal-at r in
+    rw (← e) (k .0, ap numberOf (k .1))
+
+pub event-number : {number : ℕ} → ByEvent number → OfTable number
+unfolding numberOf
+event-number invalid-time = (InvalidTime, refl)
+event-number invalid-format-string = (InvalidFormatString, refl)
+event-number formatted-string-too-large = (FormattedStringTooLarge, refl)
+event-number write-zero = (WriteZero, refl)
+
+-- back from a report
 answerBy : Report → Answer
 answerBy r = cond (eqb (r .number) 0) (Done (r .bytes)) (Refused (refusalAt (r .number)))
 

@@ -51,6 +51,11 @@ unfoldable pub reachOf : Count → ℕ
 reachOf (at n) = n
 reachOf (no number n) = n
 
+-- the refusal's number, or 0
+unfoldable pub numberIn : Count → ℕ
+numberIn (at n) = 0
+numberIn (no number n) = number
+
 -- "the next byte has no room" is 4: the text then comes as far as the room
 unfoldable pub roomFor : ℕ → ℕ → Count
 roomFor room n = cond (leb n room) (at n) (no 4 room)

@@ -11,5 +11,6 @@ pub mod Offset
 pub mod Reading
 pub mod Writing
 pub mod Format
+pub mod Runs
 pub mod Size
 pub mod Edges

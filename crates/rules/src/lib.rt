@@ -2,7 +2,7 @@
 ghost use mathlib.Core.Path.{_≡_};
 ghost use mathlib.Core.Bool.{_||_};
 ghost use Rattle.rules.specs.Reading.{noFlags, withFlag, hasFlag};
-ghost use Rattle.rules.specs.Refusal.{numberOf, ByEvent};
+ghost use Rattle.rules.specs.Refusal.{numberOf, refusalAt};
 
 // The longest inputs, in bytes.
 pub const LONGEST_FORMAT: usize = 4096;
@@ -223,6 +223,7 @@ pub enum Refusal {
     InputTooLong,
     NoBuffer,
     OutOfRange,
+    LengthMismatch,
 }
 
 // A refusal's number in the table.
@@ -237,18 +238,22 @@ pub fn number_of(refusal: Refusal) -> u32
         Refusal::InputTooLong => 5,
         Refusal::NoBuffer => 6,
         Refusal::OutOfRange => 7,
+        Refusal::LengthMismatch => 10,
     }
 }
 
-// The refusal with the number that an event of a format gave.
+// The refusal with a number of the table; with any other it is WriteZero.
 pub fn refusal_of(number: usize) -> Refusal
-    requires { ⌜ ByEvent number ⌝ }
-    ensures { λ r. ⌜ numberOf r ≡ number ⌝ }
+    ensures { λ r. ⌜ r ≡ refusalAt number ⌝ }
 {
     match number {
         1 => Refusal::InvalidTime,
         2 => Refusal::InvalidFormatString,
         3 => Refusal::FormattedStringTooLarge,
+        5 => Refusal::InputTooLong,
+        6 => Refusal::NoBuffer,
+        7 => Refusal::OutOfRange,
+        10 => Refusal::LengthMismatch,
         _ => Refusal::WriteZero,
     }
 }
@@ -266,5 +271,23 @@ pub enum Dated {
 
 pub enum Counted {
     Count(i64),
+    Refused(Refusal),
+}
+
+// A format that arrives in runs, between two calls: its length; how many bytes are read for good, and how many of the directive that is not
+// yet wholly read are kept in the store; how far the text came; the refusal's number, or 0; and whether the end was called.
+pub struct Runs {
+    pub total: usize,
+    pub passed: usize,
+    pub kept: usize,
+    pub written: usize,
+    pub number: usize,
+    pub over: bool,
+}
+
+// What a call answers.
+pub enum Progress {
+    More,
+    Done(usize),
     Refused(Refusal),
 }

@@ -43,6 +43,7 @@ fn name_to(fd: i32, refusal: Refusal) {
         Refusal::InputTooLong => text_to(fd, b"InputTooLong"),
         Refusal::NoBuffer => text_to(fd, b"NoBuffer"),
         Refusal::OutOfRange => text_to(fd, b"OutOfRange"),
+        Refusal::LengthMismatch => text_to(fd, b"LengthMismatch"),
     }
 }
 

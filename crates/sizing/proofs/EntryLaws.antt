@@ -1,5 +1,5 @@
 -- What the entry counts at a witness, and what it answers for each way through it.
-use mathlib.Core.Path.{_≡_, refl, sym, subst, _∙_}
+use mathlib.Core.Path.{_≡_, refl, sym, ap, subst, _∙_}
 use mathlib.Core.Bool.{Bool, true, false, cond}
 use mathlib.Core.List.{List}
 use Prim.Native.Nat.{ℕ, zero, suc, _≤_, _<_, min, max}
@@ -15,12 +15,13 @@ use Rattle.rules.specs.declared.Answer.{Answer}
 use Rattle.rules.specs.declared.Answer.the-variants.{Done, Refused}
 use Rattle.rules.specs.Ascii.{byte}
 use Rattle.rules.specs.Record.{longestFormat, longestZone, longestBuffer, within}
-use Rattle.rules.specs.Refusal.{numberOf, ByEvent, Report, numbered}
+use Rattle.rules.specs.Refusal.{numberOf, refusalAt, ByEvent, Report, numbered}
 use Rattle.rules.specs.Event.{Event, Holds}
 use Rattle.rules.specs.Writing.{eventsOf}
 use Rattle.rules.specs.Format.{items, events, fault, limitOf}
 use Rattle.rules.specs.Size.{Kept, AnyStamp, GoodStamp, Sizing}
 use Rattle.rules.proofs.EventLaws.{splitOn}
+use Rattle.rules.proofs.OneAnswer.{event-number, number-known}
 use Rattle.text.specs.Ran.{Ran}
 use Rattle.text.proofs.OverlayLaws.{take-replicate}
 use Rattle.text.proofs.RanLaws.{counted, same-events}
@@ -94,12 +95,14 @@ module _ (format : List ℕ) (longest : ℕ) where
       kept-report = rw (le-ltb longestFormat (length format) f, le-ltb longestZone longest z, is)
 
       module _ (h : number ≡ 0 → ⊥) where
-        pub refusable : ByEvent number
+        refusable : ByEvent number
         refusable = rw is (fault-by-event (items format) (λ e. h (is ∙ e)))
 
-        pub fault-refused : (r : Refusal) → numberOf r ≡ number → Sized format longest (Refused r)
+        pub fault-refused : (r : Refusal) → r ≡ refusalAt number → Sized format longest (Refused r)
         unfolding numbered
-        fault-refused r e = sized (Refused r) (rw e (sym (kept-report ∙ unless-fault number _ h)))
+        fault-refused r e =
+            let named : numberOf r ≡ number = ap numberOf e ∙ number-known (event-number refusable) .1 in
+            sized (Refused r) (rw named (sym (kept-report ∙ unless-fault number _ h)))
 
       module _ (h : number ≡ 0) {a b : ℕ} (a-is : a ≡ min (suc longestBuffer) (lengthAt (longestIn september longest) format)) (b-is : b ≡ min (suc longestBuffer) (lengthAt (longestIn december longest) format)) (n : ℕ) (greatest : n ≡ max a b) where
         pub none-holds : longestBuffer < n → Sized format longest (Refused NoBuffer)

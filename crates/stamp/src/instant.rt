@@ -16,14 +16,14 @@ fn say_no_record(refusal: Refusal) {
 }
 
 // Where the offset is 0 the zone is UTC. The name of any other isn't known.
-pub fn show_at(format: &[u8], count: i64, offset: i32) {
+pub fn show_at(format: &[u8], count: i64, offset: i32, run_length: usize) {
     let is_utc = offset == 0;
     match calendar::record_from_count(count, offset, 0, is_utc) {
         Dated::Made(record) => {
             if is_utc {
-                show(format, b"UTC", record);
+                show(format, b"UTC", record, run_length);
             } else {
-                show(format, b"", record);
+                show(format, b"", record, run_length);
             }
         }
         Dated::Refused(refusal) => say_no_record(refusal),

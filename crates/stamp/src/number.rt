@@ -15,7 +15,7 @@ pub enum Signed {
 }
 
 // What the bytes from `from` on say, where they are the digits of a number of at most `most`.
-fn read_number(bytes: &[u8], from: usize, most: u64) -> Number
+pub fn read_number(bytes: &[u8], from: usize, most: u64) -> Number
     ensures { λ r. ⌜ r ≡ numberOf most (drop from (now (bytes .entry))) ⌝ }
 {
     if bytes.len() <= from {

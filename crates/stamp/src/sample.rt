@@ -24,6 +24,6 @@ pub fn stamp(format: &[u8], buffer: &mut [u8]) -> Answer {
     strftime::format(format, b"CET", record(), buffer)
 }
 
-pub fn show_sample(format: &[u8]) {
-    show(format, b"CET", record());
+pub fn show_sample(format: &[u8], run_length: usize) {
+    show(format, b"CET", record(), run_length);
 }

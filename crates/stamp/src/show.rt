@@ -1,6 +1,7 @@
 // What is said of a format. Its stamp, its size and its echoes go to standard output, and refusals to standard error.
 use crate::echoes::say_echoes;
 use crate::refused::explain;
+use crate::watch::watch;
 use libc::STDERR_FILENO;
 use rules::Answer;
 use rules::Record;
@@ -21,7 +22,11 @@ fn say_size(format: &[u8]) {
     }
 }
 
-pub fn show(format: &[u8], zone: &[u8], record: Record) {
+// Where the format comes at once, `run_length` is 0.
+pub fn show(format: &[u8], zone: &[u8], record: Record, run_length: usize) {
+    if run_length != 0 {
+        watch(format, run_length, zone, record);
+    }
     let mut buffer = io::large_buffer();
     match strftime::format(format, zone, record, &mut buffer) {
         Answer::Done(bytes) => {

@@ -17,11 +17,11 @@ fn say_line(format: &[u8]) {
 
 fn say_use() {
     say::text(
-        b"usage: stamp FORMAT [COUNT [OFFSET]]\n       stamp --help\n       stamp --version\n",
+        b"usage: stamp [--runs N] FORMAT [COUNT [OFFSET]]\n       stamp --help\n       stamp --version\n",
     );
     say_line(b"Prints %A %F %T.%N, day %j, zone %Z, %:z, as FORMAT says,\n");
-    say::text(b"and the bytes that FORMAT needs for any time. Every word but the two above is a\n");
-    say::text(b"format, also one that begins with two dashes, as --%d.\n");
+    say::text(b"and the bytes that FORMAT needs for any time. Every word but the three above is\n");
+    say::text(b"a format, also one that begins with two dashes, as --%d.\n");
 }
 
 fn say_counts() {
@@ -31,16 +31,25 @@ fn say_counts() {
     say::text(
         b"OFFSET that time OFFSET seconds east of UTC. Both may be below 0. The zone name is UTC\n",
     );
-    say::text(b"where OFFSET is 0 or not given, and else empty.\n\n");
+    say::text(b"where OFFSET is 0 or not given, and else empty.\n");
+}
+
+fn say_runs() {
+    say::text(
+        b"With --runs it takes FORMAT in runs of N bytes, 1 to 32, as a bus would bring it, and\n",
+    );
+    say::text(b"says after each what the buffer holds.\n\n");
 }
 
 fn say_examples() {
     say::text(b"$ stamp '%A, %-d %B %Y'\n");
-    show_sample(b"%A, %-d %B %Y");
+    show_sample(b"%A, %-d %B %Y", 0);
     say::text(b"$ stamp '%F %T %Z' 1735574709\n");
-    show_at(b"%F %T %Z", 1735574709, 0);
+    show_at(b"%F %T %Z", 1735574709, 0, 0);
     say::text(b"$ stamp '%F %T %:z' 1735574709 -18000\n");
-    show_at(b"%F %T %:z", 1735574709, -18000);
+    show_at(b"%F %T %:z", 1735574709, -18000, 0);
+    say::text(b"$ stamp --runs 4 'on %A, %-d %B'\n");
+    show_sample(b"on %A, %-d %B", 4);
     say::text(b"\n");
 }
 
@@ -78,6 +87,7 @@ fn say_rest() {
 pub fn say_usage() {
     say_use();
     say_counts();
+    say_runs();
     say_examples();
     say_dates();
     say_times();
@@ -85,10 +95,10 @@ pub fn say_usage() {
     say_rest();
 }
 
-// Where the words are not a format and two numbers.
+// Where the words are not those of the first line of usage.
 pub fn say_words() {
     say::error(
-        b"stamp takes FORMAT, COUNT and OFFSET: put quotes around a format that has blanks\n",
+        b"stamp takes --runs N, FORMAT, COUNT and OFFSET: put quotes around a format that has blanks\n",
     );
     say::error(b"stamp --help says more\n");
 }

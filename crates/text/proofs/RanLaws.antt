@@ -9,13 +9,13 @@ use lib.ListN.{length, take, drop, replicate, length-take}
 use lib.Seq.{take-all, take-nil, take-append-le, take-append-add}
 use Rattle.rules.specs.Event.{put, pad, Event, write, check, bytesOf, textOf, lengthOf, at, writeAt, one, tally, reachOf}
 use Rattle.rules.proofs.EventLaws.{length-text, text-join, tally-join, tally-no, tally-done, tally-room, stop-first}
+use Rattle.rules.proofs.ReachLaws.{reach-most, reach-least, reach-within, no-room}
 use Rattle.text.specs.Overlay.{overlay}
 use Rattle.text.specs.Ran.{countAt, Ran}
 use Rattle.text.specs.Room.{Room}
 use Rattle.text.proofs.OverlayLaws.{overlay-nil, length-overlay, overlay-append, overlay-clipped, overlay-front-of, overlay-before, overlay-behind}
 use Rattle.text.proofs.PlaceLaws.{count-at, count-no, by-place, same-place, reach-at, reach-no, reach-past}
 use Rattle.text.proofs.CountLaws.{put-counted, join-counts, pad-counts, pad-after-counts, check-counts, refused-counts}
-use Rattle.text.proofs.ReachLaws.{reach-most, reach-least, reach-within, no-room}
 
 join-texts : (a b : List ℕ) (es : List Event) → textOf (write (put a) ∷ write (put b) ∷ es) ≡ textOf (write (put (a ++ b)) ∷ es)
 unfolding textOf bytesOf

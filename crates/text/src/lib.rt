@@ -51,6 +51,26 @@ pub fn refusal_at(place: usize) -> Refusal
     rules::refusal_of(place / REFUSED_UNIT)
 }
 
+// The refusal's number, or 0; ..
+pub fn number_at(place: usize) -> usize
+    ensures { λ r. ⌜ r ≡ event.numberIn (countAt place) ⌝ }
+{
+    if LONGEST_BUFFER < place {
+        return place / REFUSED_UNIT;
+    }
+    0
+}
+
+// .. and how far the text came.
+pub fn reach_at(place: usize) -> usize
+    ensures { λ r. ⌜ r ≡ event.reachOf (countAt place) ⌝ }
+{
+    if LONGEST_BUFFER < place {
+        return place % REFUSED_UNIT;
+    }
+    place
+}
+
 // The place after `count` bytes, of which those that have a place in the slice were laid there.
 pub fn missed(at: usize, count: usize, room: usize) -> usize
     requires { ⌜ room ≤ longestBuffer ⌝ }

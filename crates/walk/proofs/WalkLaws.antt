@@ -53,7 +53,7 @@ unfolding events
 one-item eventsFor i = sym (append-nil (itemEvents eventsFor i))
 
 -- nothing is left at the end
-pub ends : (format : List ℕ) (i : ℕ) → i ≡ length format → read between (drop i format) ≡ []
+ends : (format : List ℕ) (i : ℕ) → i ≡ length format → read between (drop i format) ≡ []
 unfolding read ending
 ends format i e = rw (e, drop-length)
 
@@ -85,6 +85,16 @@ module _ {limit room : ℕ} {r : Record} {zone format : List ℕ} {i : ℕ} {l l
 
 -- ## The walk
 
+-- more items are found, and at the end all
+module _ (found : List Item) {all : List Item} where
+  pub found-on : {is : List Item} {format : List ℕ} {i j : ℕ} → all ≡ found ++ read between (drop i format) → Part format i is j → all ≡ (found ++ is) ++ read between (drop j format)
+  found-on {is} {format} {j = j} e p =
+      e ∙ ap (λ (x : List Item). found ++ x) (p .items) ∙ sym (append-assoc found is (read between (drop j format)))
+
+  pub found-all : (format : List ℕ) (i : ℕ) → all ≡ found ++ read between (drop i format) → i ≤ length format → length format ≤ i → found ≡ all
+  found-all format i e h g =
+      sym (e ∙ ap (λ (x : List Item). found ++ x) (ends format i (omega arith)) ∙ append-nil found)
+
 -- at position i of the format and place n: the items from position `from` up to i have been run from place `start`, over the list l₀
 pub record Walked (limit room : ℕ) (r : Record) (zone format : List ℕ) (from start : ℕ) (l₀ : List ℕ) (i : ℕ) (l : List ℕ) (n : ℕ) : Type 0 where
   pub found : List Item
@@ -99,10 +109,10 @@ module _ {limit room : ℕ} {r : Record} {zone format : List ℕ} {from start : 
   walk-start h = record { found = []; rest = refl; onward = omega arith; within = h; ran = nothing }
 
   walk-on : {l₀ l l′ : List ℕ} {i n n′ j : ℕ} (is : List Item) → Walked limit room r zone format from start l₀ i l n → Part format i is j → Ran limit room (events (eventsOf r zone) is) l n l′ n′ → Walked limit room r zone format from start l₀ j l′ n′
-  walk-on {j = j} is w p v =
+  walk-on is w p v =
       record {
         found = w .found ++ is;
-        rest = w .rest ∙ ap (λ (x : List Item). w .found ++ x) (p .items) ∙ sym (append-assoc (w .found) is (read between (drop j format)));
+        rest = found-on (w .found) (w .rest) p;
         onward = omega (arith, w .onward, p .onward);
         within = p .within;
         ran = same-events (sym (events-join (eventsOf r zone) (w .found) is)) (w .ran then v);
@@ -115,6 +125,4 @@ module _ {limit room : ℕ} {r : Record} {zone format : List ℕ} {from start : 
   walk-literals {i = i} {e = e} w p v = walk-on _ w p (literals-ran r zone format i e (p .onward) (p .within) v)
 
   pub walk-end : {l₀ l : List ℕ} {i n : ℕ} → length format ≤ i → Walked limit room r zone format from start l₀ i l n → Ran limit room (events (eventsOf r zone) (read between (drop from format))) l₀ start l n
-  walk-end {i = i} h w =
-      let e : i ≡ length format = omega (arith, w .within) in
-      same-events (ap (events (eventsOf r zone)) (sym (w .rest ∙ ap (λ (is : List Item). w .found ++ is) (ends format i e) ∙ append-nil (w .found)))) (w .ran)
+  walk-end {i = i} h w = same-events (ap (events (eventsOf r zone)) (found-all (w .found) format i (w .rest) (w .within) h)) (w .ran)

@@ -183,33 +183,32 @@ fn copy_literal(out: &mut [u8], place: usize, format: &[u8], from: usize) -> usi
     i
 }
 
-// The text outgrows the scratch, or is refused: the rest from position `i` and place `at` on is counted, with no slice to write to. If it
+// The text outgrows the scratch, or is refused: the rest from position `i` and from `place` on is counted, with no slice to write to. If it
 // isn't refused, the scratch's front is copied to the buffer, and the rest is written behind it.
 fn rest(
     format: &[u8],
     i: usize,
-    at: usize,
+    place: usize,
     zone: &[u8],
     record: Record,
     out: &mut [u8],
     buffer: &mut [u8],
 ) -> usize
-    requires { ⌜ Lengths (now format) (now out) (now buffer) × Begun (limitOf (length (now format))) (length (now buffer)) «record» (now zone) (now format) i (now out) at ⌝ }
+    requires { ⌜ Lengths (now format) (now out) (now buffer) × Begun (limitOf (length (now format))) (length (now buffer)) «record» (now zone) (now format) i (now out) place ⌝ }
     ensures { λ r. ⌜ StampedBy «record» (now (zone .entry)) (now (format .entry)) (now (out .entry)) (now (buffer .entry)) (now (out .exit)) (now (buffer .exit)) r ⌝ }
 {
     let room = buffer.len();
     let limit = limit_of(format);
-    let end = run_from(format, i, at, zone, record, &mut out[..0], room, limit);
+    let end = run_from(format, i, place, zone, record, &mut out[..0], room, limit);
     if is_refused(end) {
         return end;
     }
-    copy_front(buffer, out, at);
-    run_from(format, i, at, zone, record, buffer, room, limit)
+    copy_front(buffer, out, place);
+    run_from(format, i, place, zone, record, buffer, room, limit)
 }
 
-// The text of a format in the buffer, or a refused place and the buffer as it was. Items are written to the scratch `out`, which is at most
-// as long as the buffer, as long as they end within it. The record is only handed on: a loop that reads a field of it would lay it down anew
-// at every call.
+// The text of a format in the buffer, or a refused place and the buffer as it was. Items are written to the scratch `out`, while they end
+// within it. The record is only handed on: a loop that reads a field of it would lay it down anew at every call.
 pub fn stamp(format: &[u8], zone: &[u8], record: Record, out: &mut [u8], buffer: &mut [u8]) -> usize
     requires { ⌜ Lengths (now format) (now out) (now buffer) ⌝ }
     ensures { λ r. ⌜ StampedBy «record» (now (zone .entry)) (now (format .entry)) (now (out .entry)) (now (buffer .entry)) (now (out .exit)) (now (buffer .exit)) r ⌝ }

@@ -1,32 +1,44 @@
--- Each arm has its number; the last is what is left of those that an event gives.
-use Prim.Native.Nat.{ℕ, _≤_}
-use native.Mathlib.Omega.{arith}
-use lib.Dec.{lit≤}
-use Rattle.rules.specs.Refusal.{numberOf, ByEvent, invalid-time, invalid-format-string, formatted-string-too-large, write-zero}
+-- Each arm answers for its number; the last has none of the seven.
+use mathlib.Core.Path.{sym, ap}
+use borrow.Author.Tests.{ne-eqb}
+use Rattle.rules.specs.Refusal.{refusalAt}
 use Rattle.rules.proofs.refusal_of.Statement.{statement}
 use Rattle.rules.proofs.refusal_of.Tie as tie
 
-between : {number : ℕ} → ByEvent number → (1 ≤ number) × (number ≤ 4)
-between invalid-time = (lit≤ tt, lit≤ tt)
-between invalid-format-string = (lit≤ tt, lit≤ tt)
-between formatted-string-too-large = (lit≤ tt, lit≤ tt)
-between write-zero = (lit≤ tt, lit≤ tt)
-
 returns : tie.Need-returns
-unfolding numberOf
-returns c = omega arith
+unfolding refusalAt
+returns c = sym (ap refusalAt (c .match .keys1))
 
 returns-2 : tie.Need-returns-2
-unfolding numberOf
-returns-2 c = omega arith
+unfolding refusalAt
+returns-2 c = sym (ap refusalAt (c .match .keys2))
 
 returns-3 : tie.Need-returns-3
-unfolding numberOf
-returns-3 c = omega arith
+unfolding refusalAt
+returns-3 c = sym (ap refusalAt (c .match .keys3))
 
 returns-4 : tie.Need-returns-4
-unfolding numberOf
-returns-4 c = omega (arith, between (c .before .pre))
+unfolding refusalAt
+returns-4 c = sym (ap refusalAt (c .match .keys4))
+
+returns-5 : tie.Need-returns-5
+unfolding refusalAt
+returns-5 c = sym (ap refusalAt (c .match .keys5))
+
+returns-6 : tie.Need-returns-6
+unfolding refusalAt
+returns-6 c = sym (ap refusalAt (c .match .keys6))
+
+returns-7 : tie.Need-returns-7
+unfolding refusalAt
+returns-7 c = sym (ap refusalAt (c .match .keys7))
+
+returns-8 : tie.Need-returns-8
+unfolding refusalAt
+returns-8 c =
+    let no = c .match .rest in
+    simp (ne-eqb _ _ (no .1), ne-eqb _ _ (no .0 .1), ne-eqb _ _ (no .0 .0 .1), ne-eqb _ _ (no .0 .0 .0 .1), ne-eqb _ _ (no .0 .0 .0 .0 .1), ne-eqb _ _ (no .0 .0 .0 .0 .0 .1), ne-eqb _ _ (no .0 .0 .0 .0 .0 .0 .1))
 
 pub refusal-of-spec : {M : Type 1} → statement M
-refusal-of-spec = tie.close (tie.spec returns returns-2 returns-3 returns-4)
+refusal-of-spec =
+    tie.close (tie.spec returns returns-2 returns-3 returns-4 returns-5 returns-6 returns-7 returns-8)

@@ -1,5 +1,5 @@
 -- Too long; faulty; and by the length at the two witnesses.
-use Rattle.sizing.proofs.EntryLaws.{format-long, zone-long, refusable, fault-refused, none-holds, holds-all}
+use Rattle.sizing.proofs.EntryLaws.{format-long, zone-long, fault-refused, none-holds, holds-all}
 use borrow.Author.Needs.{needs}
 use Rattle.sizing.proofs.size.Statement.{statement}
 use Rattle.sizing.proofs.size.Tie as tie
@@ -9,9 +9,6 @@ returns c = format-long _ _ (c .if1 .taken)
 
 returns-2 : tie.Need-returns-2
 returns-2 c = zone-long _ _ (c .before .if1 .left) (c .if2 .taken)
-
-refusal-of-requires : tie.Need-refusal-of-requires
-refusal-of-requires c κs = refusable _ _ (c .before .before .before .if1 .left) (c .before .before .if2 .left) (c .before .fault-of .ensures) (c .if3 .taken)
 
 returns-3 : tie.Need-returns-3
 returns-3 c =
@@ -32,5 +29,5 @@ returns-5 c =
 
 pub size-spec : {M : Type 1} → statement M
 size-spec =
-    tie.close (tie.spec returns returns-2 (λ c κs. search needs) refusal-of-requires returns-3 (λ c κs. search needs)
-    (λ c κs. search needs) (λ c κs. search needs) returns-4 returns-5)
+    tie.close (tie.spec returns returns-2 (λ c κs. search needs) (λ c κs. search needs) returns-3
+    (λ c κs. search needs) (λ c κs. search needs) (λ c κs. search needs) returns-4 returns-5)

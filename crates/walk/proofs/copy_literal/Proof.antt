@@ -6,7 +6,6 @@ use lib.ListN.{length}
 use borrow.Author.Tests.{ltb-true}
 use Rattle.walk.specs.Stamp.{Copied}
 use Rattle.walk.proofs.LiteralLaws.{copied-none, copied-kept, copied-more}
-use borrow.Author.Needs.{needs}
 use Rattle.walk.proofs.copy_literal.Statement.{statement}
 use Rattle.walk.proofs.copy_literal.Tie as tie
 

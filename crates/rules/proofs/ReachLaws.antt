@@ -37,6 +37,9 @@ module _ (limit room : ℕ) where
       (λ short. rw (tally-no limit room es 4 room) g) (λ far. rw (tally-no limit room es 3 n) h)
   reach-within (check true number ∷ es) n most h g = reach-within es n most h g
   reach-within (check false number ∷ es) n most h g = rw (tally-no limit room es number n) h
+
+  pub reach-room : (es : List Event) (n : ℕ) → n ≤ room → reachOf (tally limit room es (at n)) ≤ room
+  reach-room es n h = reach-within es n room h (omega arith)
 
   -- where there is no room from the start, only checks pass
   pub no-room : (es : List Event) (n m : ℕ) → room < n → tally limit room es (at n) ≡ at m → m ≡ n

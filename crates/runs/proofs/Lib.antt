@@ -1,0 +1,4 @@
+pub mod EntryLaws
+pub mod MoveLaws
+pub mod NumberLaws
+pub mod ReadLaws
