@@ -44,8 +44,8 @@ extern "C" {
 enum {
     /* The text stands in the buffer, or what was asked for in the answer. */
     gs_DONE = 0,
-    /* InvalidTime: a directive reads a field that is out of its range, or `%Z` a zone name with a byte above 127; a count
-       comes with too many nanoseconds, or a record has no count. */
+    /* InvalidTime: a directive reads a field that is out of its range, or `%Z` a zone name with a byte below 32 or above
+       126; a count comes with too many nanoseconds, or a record has no count. */
     gs_INVALID_TIME = 1,
     /* InvalidFormatString: the format ends inside a directive, as "%" and "%5" do. */
     gs_INVALID_FORMAT_STRING = 2,
@@ -96,7 +96,8 @@ typedef struct {
 /* Writes the text of the record, as the format says, to the front of the buffer.
 
    Read: format_len bytes from format, zone_len bytes from zone (the zone name, which `%Z` prints), and the record. A 0
-   byte ends neither. A pointer whose length is 0 is never followed, and may be NULL.
+   byte ends neither: in the format it is a byte as any other, and in the zone name one that `%Z` refuses. A pointer whose
+   length is 0 is never followed, and may be NULL.
 
    Written: where done, the first `length` bytes of the buffer and no other; no 0 byte is put behind the text. Where
    refused, no byte of the buffer is changed. The buffer must overlap neither the format nor the zone name.

@@ -265,7 +265,7 @@ fn directive(
         b'a' => out.text(&r.day_name()?[..3]),
         b'B' => out.text(r.month_name()?),
         b'z' => out.offset(r.utc_offset, colon),
-        b'Z' if zone.is_ascii() => out.text(zone),
+        b'Z' if zone.iter().all(|byte| matches!(byte, 32..=126)) => out.text(zone),
         b'Z' => Err(INVALID_TIME),
         b'c' => date_time(out, r),
         b'D' => date(out, r),

@@ -302,17 +302,25 @@ static void day_366(void) {
     WRITES("%j %U %W %V %G %g", no_zone, record, "365 52 53 01 2024 24");
 }
 
+/* A zone byte is 32 to 126, at each place of the name; a format without %Z never looks. */
 static void zone_bytes(void) {
     gs_record record = sample();
     for (int value = 0; value < 256; value++) {
-        uint8_t name[3] = {'a', (uint8_t)value, 'c'};
-        part zone = bytes(name, sizeof name);
-        if (value < 128)
-            wants(__LINE__, text("%Z"), zone, record, 3, gs_DONE, zone);
-        else
-            REFUSED("%Z", zone, record, 3, gs_INVALID_TIME);
-        WRITES("%Y", zone, record, "2024");
+        for (size_t place = 0; place < 3; place++) {
+            uint8_t name[3] = {'a', 'b', 'c'};
+            name[place] = (uint8_t)value;
+            part zone = bytes(name, sizeof name);
+            if (value >= 32 && value <= 126) {
+                wants(__LINE__, text("%Z"), zone, record, 3, gs_DONE, zone);
+            } else {
+                REFUSED("%Z", zone, record, 3, gs_INVALID_TIME);
+                REFUSED("%20Z", zone, record, 3, gs_INVALID_TIME);
+                REFUSED("%9999999Z", zone, record, 3, gs_INVALID_TIME);
+            }
+            WRITES("%Y", zone, record, "2024");
+        }
     }
+    WRITES("%9Z", no_zone, record, "");
 }
 
 static void no_format(void) {
@@ -322,9 +330,10 @@ static void no_format(void) {
     WRITES("", text("\xff"), record, "");
 }
 
-/* A 0 byte in the format or the zone name is a byte as any other. */
+/* A 0 byte in the format is a byte as any other, and ends no zone name. */
 static void zero_bytes(void) {
-    wants(__LINE__, bytes("a\0b%Z\0", 6), bytes("\0z", 2), sample(), 7, gs_DONE, bytes("a\0b\0z\0", 6));
+    wants(__LINE__, bytes("a\0b%Z\0", 6), text("z"), sample(), 7, gs_DONE, bytes("a\0bz\0", 5));
+    wants(__LINE__, text("%Z"), bytes("z\0", 2), sample(), 7, gs_INVALID_TIME, text(""));
 }
 
 static void full_and_one_short(void) {

@@ -422,7 +422,9 @@ def refusals():
 
 def zones():
     names = ["", "A", "UTC", "utc", "CeSt", "Europe/Berlin", "x" * 64, "aZ09[`{@" * 8]
-    names += [" ", "\0", "\n", "\x1b[1m", "\x7f", "\\", "%Y"]
+    names += [" ", "~", "\0", "\n", "\x1b[1m", "\x1f", "\x7f", "\\", "%Y"]
+    for byte in "\x1b\x1f ~\x7f":
+        names += [f"{byte}bc", f"a{byte}c", f"ab{byte}"]
     names += ["é", "UTC€", "\x80", "x" * 62 + "é", "日本標準時", "😀"]
     for name in names:
         zone = name.encode()

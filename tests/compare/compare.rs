@@ -23,13 +23,17 @@ use std::process::ExitCode;
 
 fn main() -> ExitCode {
     let mut words: Vec<String> = std::env::args().skip(1).collect();
+    if words == ["--zones"] {
+        return try_zones();
+    }
     let exact = words.first().is_some_and(|word| word == "--exact");
     if exact {
         words.remove(0);
     }
     let Some((seed, count)) = seed_and_count(&words) else {
-        eprintln!("usage: compare [--exact] SEED COUNT");
+        eprintln!("usage: compare [--exact] SEED COUNT | compare --zones");
         eprintln!("--exact: only the drawn cases, each in blocks of just its lengths");
+        eprintln!("--zones: only the systematic cases of zone names");
         return ExitCode::from(2);
     };
     let mut judge = Judge::new(exact);
@@ -39,5 +43,12 @@ fn main() -> ExitCode {
     }
     random::try_random(&mut judge, seed, count);
     println!("by lot: {count} cases, seed {seed}");
+    ExitCode::from(u8::from(!judge.report()))
+}
+
+fn try_zones() -> ExitCode {
+    let mut judge = Judge::new(false);
+    systematic::zone_bytes(&mut judge);
+    println!("every byte in a zone name: {} cases", judge.tried());
     ExitCode::from(u8::from(!judge.report()))
 }

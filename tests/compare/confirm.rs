@@ -27,7 +27,7 @@ const RECORD: Record<'static> = Record {
 };
 
 /// Paper 01.
-const AS_IT_STANDS: [(&str, Sweep); 12] = [
+const AS_IT_STANDS: [(&str, Sweep); 13] = [
     ("zeros fill after the minus sign, spaces before it", numbers),
     ("width above 65,535 is padded before any sign", wide_numbers),
     ("%z of -36000 is -01000", tenth_hour_west),
@@ -39,11 +39,12 @@ const AS_IT_STANDS: [(&str, Sweep); 12] = [
     ("but on a Monday it is in week 53 of its year", monday_366),
     ("default widths of %Y %C %y %G", default_widths),
     ("%U %W keep the formula", week_numbers),
+    ("a zone byte is below 128, else 1 for %Z", zones_below_128),
     ("stamps at the edges", stamps),
 ];
 
-/// Paper 02, request 2.
-const DEVIATED: [(&str, Sweep); 3] = [
+/// Paper 02, requests 2 and 5.
+const DEVIATED: [(&str, Sweep); 5] = [
     (
         "day 366 of a common year is 1 for %j %U %W %V %G %g",
         common_366,
@@ -53,6 +54,8 @@ const DEVIATED: [(&str, Sweep); 3] = [
         "%G %V %g keep the Thursday rule, day 366 of a leap year included",
         existing_days,
     ),
+    ("a zone byte is 32 to 126, else 1 for %Z", printable_zones),
+    ("and for nothing else", others_zone),
 ];
 
 fn main() -> ExitCode {
@@ -537,6 +540,75 @@ fn week_numbers(trial: &mut Trial) {
             let want = format!("{:02} {:02}", week(0), week(1));
             trial.text("%U %W", &record, &want);
         }
+    }
+}
+
+fn zones_below_128(trial: &mut Trial) {
+    try_zones(trial, |byte| byte < 128);
+}
+
+fn printable_zones(trial: &mut Trial) {
+    try_zones(trial, |byte| (32..=126).contains(&byte));
+}
+
+/// The first 256 characters, of which those from 128 on are of two such bytes, at each place of a name.
+fn zones() -> impl Iterator<Item = String> {
+    (0..=255_u8).flat_map(|byte| {
+        let it = char::from(byte);
+        [
+            format!("{it}"),
+            format!("{it}bc"),
+            format!("a{it}c"),
+            format!("ab{it}"),
+        ]
+    })
+}
+
+fn try_zones(trial: &mut Trial, taken: fn(u8) -> bool) {
+    for zone in zones() {
+        let record = Record {
+            zone: &zone,
+            ..RECORD
+        };
+        for flags in flag_sets() {
+            for width in widths(9) {
+                let fill = if flags.padding == Padding::Zeros {
+                    "0"
+                } else {
+                    " "
+                };
+                let pad = width.unwrap_or(0).saturating_sub(zone.len());
+                let pad = fill.repeat(if flags.left { 0 } else { pad });
+                let text = format!("{pad}{zone}");
+                let want = if zone.bytes().all(taken) {
+                    Ok(text.as_str())
+                } else {
+                    Err(1)
+                };
+                trial.answer(&directive(flags, width, "Z"), &record, 64, want);
+            }
+        }
+        // The check comes before the pad, and before any write.
+        if !zone.bytes().all(taken) {
+            trial.answer("%9999999Z", &record, 0, Err(1));
+            trial.answer("ab%20Z", &record, 2, Err(1));
+        }
+    }
+}
+
+/// The other directives print what they print under another name.
+fn others_zone(trial: &mut Trial) {
+    const OTHERS: &str =
+        "%A%B%C%D%F%G%H%I%L%M%N%P%R%S%T%U%V%W%X%Y%a%b%c%d%e%g%h%j%k%l%m%n%p%r%s%t%u%v%w%x%y%z%%";
+    let mut buffer = [0; 512];
+    let length = strftime(&RECORD, OTHERS.as_bytes(), &mut buffer).expect("a text");
+    let want = String::from_utf8_lossy(&buffer[..length]).into_owned();
+    for zone in zones() {
+        let record = Record {
+            zone: &zone,
+            ..RECORD
+        };
+        trial.text(OTHERS, &record, &want);
     }
 }
 

@@ -3,10 +3,13 @@
 
 #[path = "deviations/day_366.rs"]
 mod day_366;
+#[path = "deviations/zone_bytes.rs"]
+mod zone_bytes;
 
 use crate::judge::Case;
+use crate::reading::ends_inside;
 
-pub const DEVIATIONS: [Deviation; 1] = [day_366::DEVIATION];
+pub const DEVIATIONS: [Deviation; 2] = [day_366::DEVIATION, zone_bytes::DEVIATION];
 
 pub struct Deviation {
     /// The cases that may be answered otherwise.
@@ -18,4 +21,11 @@ pub struct Deviation {
 pub struct Cases {
     pub what: &'static str,
     pub hold: fn(&Case) -> bool,
+}
+
+/// Whether the format has a directive of one of these letters.
+fn reads(format: &[u8], letters: &[u8]) -> bool {
+    let mut read = false;
+    ends_inside(format, |letter| read |= letters.contains(&letter));
+    read
 }

@@ -60,7 +60,7 @@ pub fn format(format: &[u8], zone: &[u8], record: FlatRecord, buffer: &mut [u8])
 
 impl FlatRecord {
     /// The same as a time of the original. A zone name that isn't UTF-8 can't be lent to it:
-    /// by 01 it has the answer of any name with a byte from 128 on.
+    /// it has the answer of any name with a byte from 128 on.
     pub fn with_zone<'a>(&self, zone: &'a [u8]) -> Record<'a> {
         Record {
             year: self.year,

@@ -4,7 +4,7 @@ use crate::formats::any_format;
 use crate::judge::{Case, Judge};
 use crate::library::{LONGEST_BUFFER, LONGEST_ZONE};
 use crate::lot::Lot;
-use crate::records::{any_record, ascii_zone, high_zone};
+use crate::records::{any_record, other_zone, printable_zone};
 
 const ROOMS: u64 = 3;
 
@@ -30,9 +30,9 @@ pub fn try_random(judge: &mut Judge, seed: u64, count: u64) {
 
 pub fn any_zone(lot: &mut Lot) -> Vec<u8> {
     match lot.below(16) {
-        0 => high_zone(lot, LONGEST_ZONE),
-        1 if lot.once_in(8) => ascii_zone(lot, LONGEST_ZONE + 2),
-        _ => ascii_zone(lot, LONGEST_ZONE),
+        0..=1 => other_zone(lot, LONGEST_ZONE),
+        2 if lot.once_in(8) => printable_zone(lot, LONGEST_ZONE + 2),
+        _ => printable_zone(lot, LONGEST_ZONE),
     }
 }
 

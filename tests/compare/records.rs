@@ -79,8 +79,8 @@ fn offset(lot: &mut Lot) -> i32 {
     }
 }
 
-/// A name of bytes below 128.
-pub fn ascii_zone(lot: &mut Lot, longest: usize) -> Vec<u8> {
+/// A name of bytes from 32 to 126.
+pub fn printable_zone(lot: &mut Lot, longest: usize) -> Vec<u8> {
     let length = match lot.below(4) {
         0 => 0,
         1 => longest,
@@ -92,18 +92,22 @@ pub fn ascii_zone(lot: &mut Lot, longest: usize) -> Vec<u8> {
         if letters_only {
             lot.one_of(b"ABCXYZabcxyz/+")
         } else {
-            lot.any() as u8 % 128
+            lot.within(32, 126) as u8
         }
     };
     (0..length).map(byte).collect()
 }
 
-/// The same with one byte from 128 on, if the name isn't empty.
-pub fn high_zone(lot: &mut Lot, longest: usize) -> Vec<u8> {
-    let mut zone = ascii_zone(lot, longest);
+/// The same with one byte below 32 or above 126, if the name isn't empty.
+pub fn other_zone(lot: &mut Lot, longest: usize) -> Vec<u8> {
+    let mut zone = printable_zone(lot, longest);
     if !zone.is_empty() {
         let at = lot.below(zone.len());
-        zone[at] = lot.any() as u8 | 128;
+        zone[at] = match lot.below(4) {
+            0 => lot.any() as u8 | 128,
+            1 => lot.any() as u8 % 32,
+            _ => lot.one_of(&[0, 10, 27, 31, 127, 128, 255]),
+        };
     }
     zone
 }

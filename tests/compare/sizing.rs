@@ -5,7 +5,7 @@ use crate::line::encoded;
 use crate::lot::Lot;
 use crate::reading::ends_inside;
 use crate::record::strftime;
-use crate::records::{any_record, ascii_zone, high_zone};
+use crate::records::{any_record, other_zone, printable_zone};
 
 const IN_RANGE: usize = 20;
 const OUT_OF_RANGE: usize = 10;
@@ -184,14 +184,14 @@ impl Sizing {
             self.fits(asked, &zone, &witness(month), length, false);
         }
         for _ in 0..IN_RANGE {
-            let zone = ascii_zone(lot, asked.longest);
+            let zone = printable_zone(lot, asked.longest);
             self.fits(asked, &zone, &any_record(lot, 0), length, false);
         }
         for _ in 0..OUT_OF_RANGE {
             let zone = if lot.once_in(2) {
-                high_zone(lot, asked.longest)
+                other_zone(lot, asked.longest)
             } else {
-                ascii_zone(lot, asked.longest)
+                printable_zone(lot, asked.longest)
             };
             self.fits(asked, &zone, &any_record(lot, 3), length, true);
         }

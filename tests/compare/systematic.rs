@@ -294,14 +294,45 @@ fn nanoseconds(judge: &mut Judge) {
     }
 }
 
-fn zone_bytes(judge: &mut Judge) {
+/// Every byte at the first, a middle and the last place of a name, alone and in every place: under
+/// flags and widths, between other items, and where nothing looks at it.
+pub fn zone_bytes(judge: &mut Judge) {
+    let widths = ["", "1", "3", "9", "64", "65", "200"];
+    let directives = flag_sets()
+        .into_iter()
+        .flat_map(|flags| widths.map(|width| format!("%{flags}{width}Z")));
+    let others = [
+        "ab%Zc%9Z",
+        "%F %T%20Z%n",
+        "%Z%",
+        "%9999999Z",
+        "%999999999Z",
+        "%QZ",
+        "%EZ",
+        "%:Z",
+        "%Y",
+        "Z",
+    ];
+    let formats: Vec<String> = directives.chain(others.map(String::from)).collect();
     for byte in 0..=255 {
-        for zone in [&[byte][..], &[b'a', byte], &[byte; 64]] {
-            for format in ["%Z", "%^Z|%#Z|%^#Z|%9Z|%-9Z|%09Z", "%Y"] {
-                in_all_rooms(judge, format.as_bytes(), zone, LEAP);
+        for zone in zones_with(byte) {
+            for format in &formats {
+                in_all_rooms(judge, format.as_bytes(), &zone, LEAP);
             }
         }
     }
+}
+
+fn zones_with(byte: u8) -> Vec<Vec<u8>> {
+    let mut zones = vec![vec![byte], vec![byte; LONGEST_ZONE]];
+    for length in [3, LONGEST_ZONE] {
+        for place in [0, length / 2, length - 1] {
+            let mut zone: Vec<u8> = b"Ab".iter().copied().cycle().take(length).collect();
+            zone[place] = byte;
+            zones.push(zone);
+        }
+    }
+    zones
 }
 
 fn years(judge: &mut Judge) {

@@ -4,8 +4,8 @@ use core::fmt;
 #[derive(Debug, Clone, Copy, PartialEq, Eq)]
 #[non_exhaustive]
 pub enum Error {
-    /// A directive reads a field that is out of its range, or a zone name that is not ASCII; a count
-    /// comes with too many nanoseconds, or a record has no count.
+    /// A directive reads a field that is out of its range, or a zone name with a byte below 32 or
+    /// above 126; a count comes with too many nanoseconds, or a record has no count.
     InvalidTime,
     /// The format ends inside a directive.
     InvalidFormatString,

@@ -34,9 +34,11 @@
 //! arrives in parts.
 //!
 //! Text and errors are the original's, but for these: an error changes no byte of the buffer, every
-//! method of [`Time`] is called once whatever the format reads, and longer inputs than
-//! [`LONGEST_FORMAT`], [`LONGEST_ZONE`] and [`LONGEST_BUFFER`] are [`Error::InputTooLong`]. The errors
-//! of the original's other writers (`FmtError`, `OutOfMemory`, `IoError`) are not there.
+//! method of [`Time`] is called once whatever the format reads, day 366 of a common year and a zone
+//! name with a byte below 32 or above 126 are [`Error::InvalidTime`] where a directive reads them, and
+//! longer inputs than [`LONGEST_FORMAT`], [`LONGEST_ZONE`] and [`LONGEST_BUFFER`] are
+//! [`Error::InputTooLong`]. The errors of the original's other writers (`FmtError`, `OutOfMemory`,
+//! `IoError`) are not there.
 
 #![no_std]
 

@@ -43,7 +43,7 @@ pub struct Record<'a> {
     pub is_utc: bool,
     /// The seconds that local time is east of UTC.
     pub utc_offset: i32,
-    /// The name of the time zone, which `%Z` prints.
+    /// The name of the time zone, which `%Z` prints; its bytes are in `32..=126`.
     pub time_zone: &'a str,
 }
 

@@ -25,6 +25,7 @@ pub trait Time {
     fn is_utc(&self) -> bool;
     /// Returns the offset in seconds between the timezone of _time_ and UTC.
     fn utc_offset(&self) -> i32;
-    /// Returns the name of the time zone as a string.
+    /// Returns the name of the time zone as a string. `%Z` prints it if its bytes are all in
+    /// `32..=126`.
     fn time_zone(&self) -> &str;
 }

@@ -151,6 +151,21 @@ fn only_leap_years_have_a_day_366() {
 }
 
 #[test]
+fn zone_names_are_printable() {
+    let named = |zone: &str| Sale {
+        zone: String::from(zone),
+        ..sale()
+    };
+    assert_eq!(text(&named(" ~"), "%Z|%5Z|%-5Z"), " ~|    ~| ~");
+    for zone in ["\u{1f}", "\u{7f}", "\u{1b}[1m", "CE\u{1b}T", "CET\n"] {
+        refused(&named(zone), b"%Z", 8, Error::InvalidTime);
+        refused(&named(zone), b"ab%#9Z", 16, Error::InvalidTime);
+        assert_eq!(text(&named(zone), "%Y"), "2024");
+    }
+    assert_eq!(text(&named(""), "%9Z"), "");
+}
+
+#[test]
 fn longest_inputs() {
     let many = vec![b'x'; LONGEST_FORMAT + 1];
     let mut buffer = vec![0; LONGEST_BUFFER];

@@ -70,10 +70,11 @@ pub fn day_of_year(record: Record) -> bool
     1 <= day && (day <= 365 || day <= last_day_of(record.year))
 }
 
+// The original takes every byte below 128.
 fn zone_byte(b: u8) -> bool
     ensures { λ r. ⌜ r ≡ zoneByteOk b ⌝ }
 {
-    b < 128
+    32 <= b && b <= 126
 }
 
 pub fn time_zone(zone: &[u8]) -> bool

@@ -13,6 +13,8 @@ pub mod Members
 pub mod Mending
 pub mod NameTables
 pub mod Once
+pub mod OtherNames
+pub mod SameSizes
 pub mod SizingEdgesHold
 pub mod ThirdDemand
 pub mod Witnesses

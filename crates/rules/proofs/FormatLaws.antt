@@ -56,7 +56,7 @@ module _ (Given : ℕ → Type 0) where
   CountOk (at n) = Unit {0}
   CountOk (no number n) = Given number
 
-never : {A : Type 0} → true ≡ false → A
+pub never : {A : Type 0} → true ≡ false → A
 never e = let z : _≡_ {A = ℕ} 0 1 = cc in absurd (omega arith)
 
 -- no check is 4

@@ -32,6 +32,7 @@ pub mod RunsHold
 pub mod RunsLaws
 pub mod SettledLaws
 pub mod Shift
+pub mod Stamped
 pub mod Tables
 pub mod TooWide
 pub mod UnreadFields
@@ -41,3 +42,6 @@ pub mod WidthLaws
 pub mod WidthsRead
 pub mod YearDays
 pub mod YearLaws
+pub mod ZoneNames
+pub mod ZoneTests
+pub mod ZoneUnread

@@ -20,7 +20,7 @@ pub both : (a b : Bool) → (a && b) ≡ true → (a ≡ true) × (b ≡ true)
 both true b h = (refl, h)
 both false b h = (h, cc)
 
-true-of : (b : Bool) → T b → b ≡ true
+pub true-of : (b : Bool) → T b → b ≡ true
 true-of true h = refl
 true-of false h = absurd h
 

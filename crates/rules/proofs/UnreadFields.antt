@@ -199,7 +199,7 @@ module _ (r r′ : Record) (zone zone′ : List ℕ) where
 
   -- ## The events
 
-  same-piece : (p : Piece) → Agree (p .spec) → eventsOf r zone p ≡ eventsOf r′ zone′ p
+  pub same-piece : (p : Piece) → Agree (p .spec) → eventsOf r zone p ≡ eventsOf r′ zone′ p
   unfolding eventsOf specEvents verdictOf
   same-piece p a =
       rw (same-lead (p .spec) p (a .free), same-checks (fieldsOf (p .spec)) (a .fields), same-body (p .spec) p (a .free) (a .fields))

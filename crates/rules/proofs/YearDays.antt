@@ -3,27 +3,23 @@ use mathlib.Core.Path.{_≡_, refl, ap, _∙_}
 use mathlib.Core.Bool.{Bool, true, false, cond, _&&_}
 use mathlib.Core.List.{List, _∷_, _++_, map}
 use Prim.Native.Nat.{ℕ, _+_, _≤_}
-use lib.ListN.{length}
 use lib.IntN.{ℤ, pos}
 use Rattle.rules.specs.declared.Record.{Record}
 use Rattle.rules.specs.declared.IsoWeek.{IsoWeek}
 use Rattle.rules.specs.declared.Number.{Number}
 use Rattle.rules.specs.declared.Number.the-variants.{YearDay, YearIso8601, YearIso8601Rem100, WeekNumberIso8601, WeekNumberFromSunday, WeekNumberFromMonday}
-use Rattle.rules.specs.declared.Spec.{Spec}
 use Rattle.rules.specs.declared.Spec.the-variants.{Number as number}
 use Rattle.rules.specs.declared.Piece.{Piece}
 use Rattle.rules.specs.Record.{weekday, dayOfYear, within, okField, allOk}
-use Rattle.rules.specs.Event.{Event, write, judged, textOf, done, Holds}
+use Rattle.rules.specs.Event.{Event, write, textOf, done}
 use Rattle.rules.specs.Decimal.{floorMod}
 use Rattle.rules.specs.Calendar.{isLeap, leapDay, daysIn}
 use Rattle.rules.specs.Week.{isoWeek, Iso8601}
 use Rattle.rules.specs.Writing.{widthOr, valueOf, defaultWidth, fillOf, numberWrites, numberFields, fieldsOf, leadOf, bodyOf, verdict, verdictOf, specEvents, eventsOf}
-use Rattle.rules.specs.Format.{Item, directive, items, itemEvents, events, limitOf, formatEvents, formatted}
-use Rattle.rules.proofs.EventLaws.{text-join, holds-split, run-done}
-use Rattle.rules.proofs.FormatLaws.{passes}
+use Rattle.rules.specs.Format.{Item, directive, items, events, formatted}
 use Rattle.rules.proofs.IsoWeeks.{iso-8601}
 use Rattle.rules.proofs.RecordLaws.{Each, ranges-of}
-use Rattle.rules.proofs.Resume.{events-join}
+use Rattle.rules.proofs.Stamped.{passed-check, printed}
 
 -- ## The check
 
@@ -92,29 +88,15 @@ module _ (format zone text : List ℕ) (r : Record) (room : ℕ) (stamp : format
   abbrev es : List Item → List Event
   es = events (eventsOf r zone)
 
-  abbrev own : List Event
-  own = judged (verdictOf (number n) r zone) ∷ map write (bodyOf (number n) p r zone)
-
-  all-events : es (items format) ≡ es before ++ (own ++ es after)
-  unfolding events itemEvents eventsOf specEvents leadOf
-  all-events =
-      ap es found ∙ events-join (eventsOf r zone) before (directive p ∷ after) ∙ ap (λ (s : Spec). es before ++ (specEvents s p r zone ++ es after)) prints
-
-  run-is : Holds (es (items format)) × (text ≡ textOf (es (items format)))
-  unfolding formatted formatEvents Holds textOf
-  run-is = let d = run-done (limitOf (length format)) room (formatEvents format zone r room) text stamp in (d .0 .1 .1 .1, d .2)
-
   -- its fields are in range
   pub fields-passed : Each (numberFields n) r
-  unfolding Holds verdictOf verdict fieldsOf
-  fields-passed =
-      let h : Holds (own ++ es after) = holds-split (es before) (own ++ es after) (rw all-events at (run-is .0)) .1 in
-      ranges-of (numberFields n) r zone (passes (allOk (numberFields n) r zone) (holds-split own (es after) h .0 .0))
+  unfolding fieldsOf
+  fields-passed = ranges-of (numberFields n) r zone (passed-check format zone text r room stamp before after p found (number n) prints)
 
   -- its text stands between that of the items before and that of those after
   pub number-printed : text ≡ textOf (es before) ++ (numberText p n (valueOf n r) ++ textOf (es after))
-  unfolding textOf bodyOf
-  number-printed = run-is .1 ∙ ap textOf all-events ∙ text-join (es before) (own ++ es after) ∙ ap (λ (t : List ℕ). textOf (es before) ++ t) (text-join own (es after))
+  unfolding specEvents leadOf bodyOf textOf
+  number-printed = printed format zone text r room stamp before after p found (number n) prints
 
   -- so the day exists in its year, for each of `j U W V G g`
   pub day-exists : ReadsDay n → (1 ≤ r .«day_of_year») × (r .«day_of_year» ≤ daysIn (r .year))

@@ -113,14 +113,18 @@ valid format = leb (length format) longestFormat && eqb (fault (items format)) 0
 abbrev pub limitOf : ℕ → ℕ
 limitOf formatLength = formatLength * 524288
 
--- "Longest inputs": "5 first, even for an empty format."
+-- "Longest inputs"
 abbrev pub inputs : ℕ → ℕ → ℕ → List Event
 inputs formatLength zoneLength room =
     check (leb formatLength longestFormat) 5 ∷ check (leb zoneLength longestZone) 5 ∷ check (leb room longestBuffer) 5 ∷ []
 
+-- "5 first, even for an empty format."
+abbrev pub lengthsFirst : List ℕ → List ℕ → ℕ → List Event → List Event
+lengthsFirst format zone room es = inputs (length format) (length zone) room ++ es
+
 -- "Then the format runs left to right as events"
 unfoldable pub formatEvents : List ℕ → List ℕ → Record → ℕ → List Event
-formatEvents format zone r room = inputs (length format) (length zone) room ++ events (eventsOf r zone) (items format)
+formatEvents format zone r room = lengthsFirst format zone room (events (eventsOf r zone) (items format))
 
 -- the outcome for a format, a zone name, a record and a buffer of `room` bytes
 unfoldable pub formatted : List ℕ → List ℕ → Record → ℕ → Outcome

@@ -13,4 +13,5 @@ pub mod Writing
 pub mod Format
 pub mod Runs
 pub mod Size
+pub mod ZoneNames
 pub mod Edges

@@ -2,7 +2,7 @@
 use mathlib.Core.Bool.{Bool, true, false, _&&_}
 use mathlib.Core.List.{List, [], _∷_}
 use Prim.Native.Nat.{ℕ, _<_}
-use lib.Dec.{T, ltb, leb}
+use lib.Dec.{T, leb}
 use lib.IntN.{ℤ}
 use lib.Signed.{mag}
 use Rattle.rules.specs.declared.Record.{Record}
@@ -47,20 +47,23 @@ recordOf year month day hour minute second nanoseconds weekday dayOfYear to-int 
 pub data Field : Type 0 where
   month day hour minute second nanoseconds weekday dayOfYear zoneName : Field
 
--- "zone bytes below 128"
+abbrev pub within : ℕ → ℕ → ℕ → Bool
+within least most n = leb least n && leb n most
+
+abbrev pub eachByte : (ℕ → Bool) → List ℕ → Bool
+eachByte ok [] = true
+eachByte ok (b ∷ bytes) = ok b && eachByte ok bytes
+
+-- "A zone byte must now be 32 to 126" (02, request 5)
 abbrev pub zoneByteOk : ℕ → Bool
-zoneByteOk b = ltb b 128
+zoneByteOk b = within 32 126 b
 
 unfoldable pub zoneOk : List ℕ → Bool
-zoneOk [] = true
-zoneOk (b ∷ zone) = zoneByteOk b && zoneOk zone
+zoneOk zone = eachByte zoneByteOk zone
 
 -- "day of year 1..366"; "the day-of-year check takes the year too and answers InvalidTime for 366 in a common year" (02, request 2)
 abbrev pub lastDayOf : ℤ → ℕ
 lastDayOf year = daysIn year
-
-abbrev pub within : ℕ → ℕ → ℕ → Bool
-within least most n = leb least n && leb n most
 
 -- "month 1..12, day 1..31, hour 0..23, minute 0..59, second 0..60, nanoseconds to 999,999,999, weekday 0..6, day of year 1..366"
 unfoldable pub okField : Field → Record → List ℕ → Bool

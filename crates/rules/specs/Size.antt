@@ -16,6 +16,10 @@ use Rattle.rules.specs.Format.{items, events, fault, formatted}
 abbrev pub Stamps : Type 1
 Stamps = Record → List ℕ → Type 0
 
+-- the outcomes for a format, a zone name, a record and a buffer: `formatted` are those of the rules
+abbrev pub Outcomes : Type 0
+Outcomes = List ℕ → List ℕ → Record → ℕ → Outcome
+
 abbrev pub textFor : List ℕ → List ℕ → Record → List ℕ
 textFor format zone r = textOf (events (eventsOf r zone) (items format))
 
@@ -24,20 +28,20 @@ abbrev pub Excused : ℕ → Type 0
 Excused number = number ≡ 1
 
 -- "a buffer of N bytes gives every record .. its text or InvalidTime, and one record .. needs exactly N"
-pub record SizeIs (Every Some : Stamps) (format : List ℕ) (n : ℕ) : Type 0 where
-  pub serves : (r : Record) (zone : List ℕ) → Every r zone → (formatted format zone r n ≡ done (textFor format zone r)) ⊎ ((number : ℕ) × (Excused number × (formatted format zone r n ≡ refused number)))
+pub record SizeBy (outcomes : Outcomes) (Every Some : Stamps) (format : List ℕ) (n : ℕ) : Type 0 where
+  pub serves : (r : Record) (zone : List ℕ) → Every r zone → (outcomes format zone r n ≡ done (textFor format zone r)) ⊎ ((number : ℕ) × (Excused number × (outcomes format zone r n ≡ refused number)))
   pub one : Record
   pub one-zone : List ℕ
   pub one-in : Some one one-zone
-  pub one-fits : formatted format one-zone one n ≡ done (textFor format one-zone one)
-  pub one-needs : (room : ℕ) → room < n → formatted format one-zone one room ≡ refused 4
+  pub one-fits : outcomes format one-zone one n ≡ done (textFor format one-zone one)
+  pub one-needs : (room : ℕ) → room < n → outcomes format one-zone one room ≡ refused 4
 
 -- "some such in-range record fits no buffer of 65,536 bytes or fewer"
-pub record NoneServes (Some : Stamps) (format : List ℕ) : Type 0 where
+pub record NoneServesBy (outcomes : Outcomes) (Some : Stamps) (format : List ℕ) : Type 0 where
   pub one : Record
   pub one-zone : List ℕ
   pub one-in : Some one one-zone
-  pub fits-none : (room : ℕ) → room ≤ longestBuffer → (text : List ℕ) → formatted format one-zone one room ≡ done text → ⊥
+  pub fits-none : (room : ℕ) → room ≤ longestBuffer → (text : List ℕ) → outcomes format one-zone one room ≡ done text → ⊥
 
 -- the inputs keep the longest lengths
 pub record Kept (format : List ℕ) (longest : ℕ) : Type 0 where
@@ -45,11 +49,21 @@ pub record Kept (format : List ℕ) (longest : ℕ) : Type 0 where
   pub zone-short : longest ≤ longestZone
 
 -- "Sizing: 5, then 2 for any format that ends inside a directive, then 6." "its refusals report size 0"
-pub data Sizing (Every Some : Stamps) (format : List ℕ) (longest : ℕ) : Report → Type 0 where
-  too-long : (longestFormat < length format) ⊎ (longestZone < longest) → Sizing Every Some format longest (record { number = 5; bytes = 0 })
-  faulty : (n : ℕ) → Kept format longest → fault (items format) ≡ suc n → Sizing Every Some format longest (record { number = suc n; bytes = 0 })
-  no-buffer : Kept format longest → fault (items format) ≡ 0 → NoneServes Some format → Sizing Every Some format longest (record { number = 6; bytes = 0 })
-  needs : (n : ℕ) → Kept format longest → fault (items format) ≡ 0 → SizeIs Every Some format n → Sizing Every Some format longest (record { number = 0; bytes = n })
+pub data SizingBy (outcomes : Outcomes) (Every Some : Stamps) (format : List ℕ) (longest : ℕ) : Report → Type 0 where
+  too-long : (longestFormat < length format) ⊎ (longestZone < longest) → SizingBy outcomes Every Some format longest (record { number = 5; bytes = 0 })
+  faulty : (n : ℕ) → Kept format longest → fault (items format) ≡ suc n → SizingBy outcomes Every Some format longest (record { number = suc n; bytes = 0 })
+  no-buffer : Kept format longest → fault (items format) ≡ 0 → NoneServesBy outcomes Some format → SizingBy outcomes Every Some format longest (record { number = 6; bytes = 0 })
+  needs : (n : ℕ) → Kept format longest → fault (items format) ≡ 0 → SizeBy outcomes Every Some format n → SizingBy outcomes Every Some format longest (record { number = 0; bytes = n })
+
+-- the same by the rules
+abbrev pub SizeIs : Stamps → Stamps → List ℕ → ℕ → Type 0
+SizeIs = SizeBy formatted
+
+abbrev pub NoneServes : Stamps → List ℕ → Type 0
+NoneServes = NoneServesBy formatted
+
+abbrev pub Sizing : Stamps → Stamps → List ℕ → ℕ → Report → Type 0
+Sizing = SizingBy formatted
 
 -- the numbers of a record fit their types
 pub record Typed (r : Record) : Type 0 where

@@ -35,7 +35,9 @@ fn say_why(refusal: Refusal, format: &[u8])
     requires { ⌜ length (now format) ≤ 4096 ⌝ }
 {
     match refusal {
-        Refusal::InvalidTime => say::error(b" reads a field that is out of its range"),
+        Refusal::InvalidTime => say::error(
+            b" reads a field that is out of its range, or a zone name with a byte below 32 or above 126",
+        ),
         Refusal::InvalidFormatString => say::error(b" is cut off by the end of the format"),
         Refusal::FormattedStringTooLarge => {
             say::error(b" asks for a pad that would pass the size limit of ");

@@ -1,8 +1,7 @@
 //! 02, request 2: day 366 of a common year is InvalidTime for `j U W V G g`.
 
-use super::{Cases, Deviation};
+use super::{reads, Cases, Deviation};
 use crate::judge::Case;
-use crate::reading::ends_inside;
 use crate::records::leap;
 
 pub const DEVIATION: Deviation = Deviation {
@@ -17,9 +16,5 @@ pub const DEVIATION: Deviation = Deviation {
 };
 
 fn day_366_is_read(case: &Case) -> bool {
-    let mut read = false;
-    if case.record.day_of_year == 366 {
-        ends_inside(case.format, |letter| read |= b"jUWVGg".contains(&letter));
-    }
-    read
+    case.record.day_of_year == 366 && reads(case.format, b"jUWVGg")
 }
