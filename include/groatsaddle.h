@@ -1,5 +1,5 @@
 /* Groatsaddle: format bytes and a flat time record go in, text comes out in a buffer that the caller lends. The record
-   can be had from a count of seconds, and the format can come in runs.
+   can be had from a count of seconds, and the format can come in runs, or be read once and stored.
 
    Link libgroatsaddle.a (-lgroatsaddle), which `rt staticlib groatsaddle` writes to target/staticlib, for x86-64. It
    calls memcpy and memset, which a C compiler's programs have, and nothing else. gs_format takes some 24 KB of code and
@@ -15,8 +15,8 @@
 
    Nothing is allocated and no state is kept: any number of threads may call at once, as long as nobody changes what is
    lent while the call runs. So may an interrupt, if the registers of the float unit are saved for it: the offset's hour
-   is a floating point number. The deepest stack that was seen is 1,304 bytes, of gs_format, and 1,400 of a format in
-   runs; that is what was seen by running it, not a bound that is proved. */
+   is a floating point number. The deepest stack that was seen is 1,592 bytes, of gs_format, 1,696 of a format in runs
+   and 1,688 of a stored form; that is what was seen by running it, not a bound that is proved. */
 
 #ifndef GROATSADDLE_H
 #define GROATSADDLE_H
@@ -40,6 +40,9 @@ extern "C" {
 #define gs_LONGEST_BUFFER 65536
 #define gs_LONGEST_RUN 32
 
+/* The longest stored form that gs_compile writes, in bytes: that of 2,048 directives of two bytes each. */
+#define gs_LONGEST_STORED 22534
+
 /* What `refusal` of an answer can be. */
 enum {
     /* The text stands in the buffer, or what was asked for in the answer. */
@@ -51,7 +54,7 @@ enum {
     gs_INVALID_FORMAT_STRING = 2,
     /* FormattedStringTooLarge: padding would take the text past 524,288 bytes for each byte of the format. */
     gs_FORMATTED_STRING_TOO_LARGE = 3,
-    /* WriteZero: the buffer is too short for the text, or the store for the format. */
+    /* WriteZero: the buffer is too short for the text or for the stored form, or the store for the format. */
     gs_WRITE_ZERO = 4,
     /* InputTooLong: an input is longer than the lengths above. It comes before every other refusal. */
     gs_INPUT_TOO_LONG = 5,
@@ -60,7 +63,9 @@ enum {
     /* OutOfRange, of gs_record_from_count only: count plus offset leaves an int64_t, or its year an int32_t. */
     gs_OUT_OF_RANGE = 7,
     /* LengthMismatch, of a format in runs only: the runs bring more bytes than the total that was said, or fewer. */
-    gs_LENGTH_MISMATCH = 10
+    gs_LENGTH_MISMATCH = 10,
+    /* BadStored, of gs_format_stored only: the bytes are no stored form. */
+    gs_BAD_STORED = 11
 };
 
 /* The fields are independent: nothing asks that the weekday and the date agree. A field is checked where a directive
@@ -233,6 +238,57 @@ gs_runs gs_runs_end(gs_runs runs,
 
 /* What the last call answered. A number that is none of the table reads as gs_WRITE_ZERO. */
 gs_progress gs_runs_answer(gs_runs runs);
+
+/* A format that is read once and stored, then run many times. For every record, zone name and buffer, running the stored
+   form with the format's length is what gs_format answers for the format, and leaves in the buffer.
+
+   A first use:
+
+       uint8_t stored[256], line[64];
+       gs_answer form = gs_compile((const uint8_t *)"%F %T", 5, stored, sizeof stored);
+       gs_answer answer = gs_format_stored(stored, form.length, 5, NULL, 0, record, line, sizeof line);
+
+   The stored form has three sections, each after its count of entries. A count has two bytes, and every number has its
+   low byte first.
+
+   - The literal bytes, one after the other.
+   - The directives, 8 bytes each: the letter, or 1, 2 or 3 for `%:z`, `%::z` and `%:::z`; padding, 0 by default and
+     after `-`, 1 after `_`, 2 after `0`; flags, the sum of 1 for `-`, 2 for `#` and 4 for `^`; 1 where a width is given,
+     else 0; the width in four bytes, 0 where none is given. Of two letters that mean the same gs_compile stores one: `D`
+     for `x`, `T` for `X`, `b` for `h`.
+   - The steps, 3 bytes each: 0 and how many of the next literal bytes are written; or 1 and which directive is, from 0.
+
+   gs_compile makes one step of neighbouring bytes that stand for themselves, echoes among them, and gives each directive
+   an entry of its own. The empty format is six 0 bytes. */
+
+/* Writes the stored form of the format to the front of `stored`; `length` is its length, at most gs_LONGEST_STORED.
+
+   Read: format_len bytes from format, which may be NULL where that is 0. Written: where done, the first `length` bytes of
+   `stored` and no other; where refused, none. `stored` must not overlap the format.
+
+   Refused, in this order: gs_INPUT_TOO_LONG (the format, or a place of more than 65,536 bytes), gs_INVALID_FORMAT_STRING,
+   gs_WRITE_ZERO (the stored form has no room). */
+gs_answer gs_compile(const uint8_t *format, size_t format_len,
+                     uint8_t *stored, size_t stored_len);
+
+/* Writes the text of the record, as the stored form says, to the front of the buffer. Nothing but the text is written.
+
+   Read: stored_len bytes from stored, whatever they are, zone_len bytes from zone, and the record. A pointer whose length
+   is 0 is never followed, and may be NULL. The buffer must overlap neither the stored form nor the zone name.
+
+   format_len is the length of the format that was compiled. Nothing but the size limit goes by it, 524,288 bytes of text
+   for each of its bytes, which only padding can pass; with 0, any padding does.
+
+   Refused, in this order:
+   - gs_INPUT_TOO_LONG: format_len is above 4,096, the zone name or the buffer is too long.
+   - gs_BAD_STORED, before any text: the counts and stored_len disagree; a step's first byte is neither 0 nor 1, or it
+     passes its section; or a directive, used or not, is one that no format gives.
+   - by place, the first thing that fails: gs_INVALID_TIME, gs_FORMATTED_STRING_TOO_LARGE, gs_WRITE_ZERO.
+   No byte of the buffer is changed then. */
+gs_answer gs_format_stored(const uint8_t *stored, size_t stored_len, size_t format_len,
+                           const uint8_t *zone, size_t zone_len,
+                           gs_record record,
+                           uint8_t *buffer, size_t buffer_len);
 
 #ifdef __cplusplus
 }

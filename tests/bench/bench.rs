@@ -1,4 +1,5 @@
-//! Times the library beside a plain formatter and the original, and measures how deep their stacks go.
+//! Times the library, direct and from the stored form, beside a plain formatter and the original, and measures how deep their
+//! stacks go.
 //! Exit status 1: a text differs.
 
 mod counter;
@@ -16,6 +17,9 @@ mod runs;
 #[allow(dead_code)]
 mod runs_library;
 mod stack;
+mod stored;
+#[path = "../compare/stored_library.rs"]
+mod stored_library;
 
 use library::FlatRecord;
 use lot::Lot;
@@ -55,19 +59,23 @@ fn main() -> ExitCode {
     ];
     let records = sales();
     for (name, format) in formats {
-        if let Err(record) = same_texts(format.as_bytes(), &records) {
-            println!("{name}: the three texts are not the same for record {record}");
+        if let Err(record) = same_texts(&Read::new(format), &records) {
+            println!("{name}: the four texts are not the same for record {record}");
             return ExitCode::FAILURE;
         }
     }
     println!("{WINDOWS} windows of {STAMPS} stamps, in ns a stamp: the best window, the median, the mean");
     for (at, (name, format)) in formats.into_iter().enumerate() {
-        let times = race(format.as_bytes(), &records);
+        let times = race(&Read::new(format), &records);
         if at == 0 {
             print_million(&times);
         }
         print_times(name, &times);
     }
+    stored::print_times(
+        &formats.map(|(name, format)| (name, Read::new(format))),
+        WINDOWS / 20,
+    );
     for (name, format) in &formats[..3] {
         runs::print_times(name, &runs::race(format.as_bytes(), &records, WINDOWS));
     }
@@ -75,6 +83,20 @@ fn main() -> ExitCode {
     counter::print_times(&counter::race(&counts, WINDOWS));
     print_stacks(&formats.map(|(_, format)| format), &records);
     ExitCode::SUCCESS
+}
+
+/// A format, and its stored form: nothing if it ends inside a directive.
+struct Read {
+    format: Vec<u8>,
+    stored: Vec<u8>,
+}
+
+impl Read {
+    fn new(format: &str) -> Self {
+        let format = format.as_bytes().to_vec();
+        let stored = stored::compiled(&format);
+        Read { format, stored }
+    }
 }
 
 /// One window's records, as a module's sales bring them.
@@ -103,20 +125,20 @@ fn original(record: &Record, format: &[u8], buffer: &mut [u8]) -> Result<usize, 
 }
 
 /// The number of the first record whose texts differ.
-fn same_texts(format: &[u8], records: &[FlatRecord]) -> Result<(), usize> {
-    let mut lines = [[0; 1024]; 3];
+fn same_texts(read: &Read, records: &[FlatRecord]) -> Result<(), usize> {
+    let format = &read.format;
+    let done = |answer: library::Answer| (answer.refusal == 0).then_some(answer.length as usize);
+    let mut lines = [[0; 1024]; 4];
     for (at, record) in records.iter().enumerate() {
-        let [ours, plain, theirs] = &mut lines;
-        let answer = library::format(format, ZONE, *record, ours);
+        let [ours, stored, plain, theirs] = &mut lines;
         let lengths = [
-            (answer.refusal == 0).then_some(answer.length as usize),
+            done(library::format(format, ZONE, *record, ours)),
+            done(stored::run(read, *record, stored)),
             plain::format(format, ZONE, *record, plain).ok(),
             original(&record.with_zone(ZONE), format, theirs).ok(),
         ];
-        let [Some(a), Some(b), Some(c)] = lengths else {
-            return Err(at);
-        };
-        if ours[..a] != plain[..b] || ours[..a] != theirs[..c] {
+        let texts = [0, 1, 2, 3].map(|who| lengths[who].map(|length| &lines[who][..length]));
+        if texts[0].is_none() || texts.iter().any(|text| *text != texts[0]) {
             return Err(at);
         }
     }
@@ -153,27 +175,33 @@ impl Times {
     }
 
     fn median(&self) -> f64 {
-        self.sorted()[WINDOWS / 2]
+        self.sorted()[self.windows.len() / 2]
     }
 
     fn mean(&self) -> f64 {
-        self.windows.iter().sum::<f64>() / WINDOWS as f64
+        self.windows.iter().sum::<f64>() / self.windows.len() as f64
     }
 }
 
-/// Library, plain formatter and original in turn, window by window.
-fn race(format: &[u8], records: &[FlatRecord]) -> [Times; 3] {
+/// Library, stored form, plain formatter and original in turn, window by window.
+fn race(read: &Read, records: &[FlatRecord]) -> [Times; 4] {
+    let format = &read.format[..];
     let times: Vec<Record> = records
         .iter()
         .map(|record| record.with_zone(ZONE))
         .collect();
     let mut line = [0; 1024];
-    let mut all = [0; 3].map(|_| Times::new());
-    let [ours, plain, theirs] = &mut all;
+    let mut all = [0; 4].map(|_| Times::new());
+    let [ours, stored, plain, theirs] = &mut all;
     for _ in 0..WINDOWS {
         ours.window(|| {
             for record in records {
                 black_box(library::format(black_box(format), ZONE, *record, &mut line));
+            }
+        });
+        stored.window(|| {
+            for record in records {
+                black_box(stored::run(black_box(read), *record, &mut line));
             }
         });
         plain.window(|| {
@@ -191,7 +219,7 @@ fn race(format: &[u8], records: &[FlatRecord]) -> [Times; 3] {
 }
 
 /// The measurement that the buyer asked for: all windows together.
-fn print_million([ours, plain, theirs]: &[Times; 3]) {
+fn print_million([ours, _, plain, theirs]: &[Times; 4]) {
     let milliseconds = |times: &Times| times.mean() * (WINDOWS * STAMPS) as f64 / 1e6;
     println!(
         "a million stamps of a 64-byte format with ten directives: library {:.0} ms, plain {:.0} ms, original {:.0} ms, library/plain {:.2}",
@@ -202,9 +230,14 @@ fn print_million([ours, plain, theirs]: &[Times; 3]) {
     );
 }
 
-fn print_times(name: &str, [ours, plain, theirs]: &[Times; 3]) {
+fn print_times(name: &str, [ours, stored, plain, theirs]: &[Times; 4]) {
     println!("{name}");
-    for (who, times) in [("library", ours), ("plain", plain), ("original", theirs)] {
+    for (who, times) in [
+        ("library", ours),
+        ("stored", stored),
+        ("plain", plain),
+        ("original", theirs),
+    ] {
         println!(
             "    {who:<16} {:8.1} {:8.1} {:8.1}",
             times.best(),
@@ -212,17 +245,23 @@ fn print_times(name: &str, [ours, plain, theirs]: &[Times; 3]) {
             times.mean()
         );
     }
-    for (who, times) in [("library/plain", plain), ("library/original", theirs)] {
+    for (who, times, others) in [
+        ("library/plain", ours, plain),
+        ("library/original", ours, theirs),
+        ("stored/library", stored, ours),
+        ("stored/plain", stored, plain),
+        ("stored/original", stored, theirs),
+    ] {
         println!(
             "    {who:<16} {:8.2} {:8.2}",
-            ours.best() / times.best(),
-            ours.median() / times.median()
+            times.best() / others.best(),
+            times.median() / others.median()
         );
     }
 }
 
 /// Every directive under flags and widths, and the formats that are timed.
-fn deep_formats(timed: &[&str]) -> Vec<String> {
+fn deep_formats(timed: &[&str]) -> Vec<Read> {
     let letters = "%ABCDFGHILMNPRSTUVWXYZabcdeghjklmnprstuvwxyz"
         .chars()
         .map(String::from);
@@ -234,49 +273,66 @@ fn deep_formats(timed: &[&str]) -> Vec<String> {
         .flat_map(|directive| fronts.map(|front| format!("%{front}{directive}")))
         .chain(["%", "%E", "%5Q", "%99999999999Y"].map(String::from))
         .chain(timed.iter().map(|format| format.to_string()))
+        .map(|format| Read::new(&format))
         .collect()
 }
 
 /// A formatter as the stack sees it: the answer is thrown away.
-type Formatter = fn(&[u8], FlatRecord, &mut [u8]);
+type Formatter = fn(&Read, FlatRecord, &mut [u8]);
 
 #[inline(never)]
-fn nothing(format: &[u8], record: FlatRecord, buffer: &mut [u8]) {
-    black_box((format, record, buffer));
+fn nothing(read: &Read, record: FlatRecord, buffer: &mut [u8]) {
+    black_box((read, record, buffer));
 }
 
 #[inline(never)]
-fn with_library(format: &[u8], record: FlatRecord, buffer: &mut [u8]) {
-    black_box(library::format(format, ZONE, record, buffer));
+fn with_library(read: &Read, record: FlatRecord, buffer: &mut [u8]) {
+    black_box(library::format(&read.format, ZONE, record, buffer));
 }
 
 #[inline(never)]
-fn with_runs(format: &[u8], record: FlatRecord, buffer: &mut [u8]) {
+fn with_runs(read: &Read, record: FlatRecord, buffer: &mut [u8]) {
     let (store, line) = buffer.split_at_mut(library::LONGEST_FORMAT);
-    black_box(runs::by_runs(format, runs::SHORT, record, store, line));
+    black_box(runs::by_runs(
+        &read.format,
+        runs::SHORT,
+        record,
+        store,
+        line,
+    ));
 }
 
 #[inline(never)]
-fn with_plain(format: &[u8], record: FlatRecord, buffer: &mut [u8]) {
-    let _ = black_box(plain::format(format, ZONE, record, buffer));
+fn with_compile(read: &Read, _: FlatRecord, buffer: &mut [u8]) {
+    black_box(stored_library::compile(&read.format, buffer));
 }
 
 #[inline(never)]
-fn with_original(format: &[u8], record: FlatRecord, buffer: &mut [u8]) {
-    let _ = black_box(original(&record.with_zone(ZONE), format, buffer));
+fn with_stored(read: &Read, record: FlatRecord, buffer: &mut [u8]) {
+    black_box(stored::run(read, record, buffer));
+}
+
+#[inline(never)]
+fn with_plain(read: &Read, record: FlatRecord, buffer: &mut [u8]) {
+    let _ = black_box(plain::format(&read.format, ZONE, record, buffer));
+}
+
+#[inline(never)]
+fn with_original(read: &Read, record: FlatRecord, buffer: &mut [u8]) {
+    let _ = black_box(original(&record.with_zone(ZONE), &read.format, buffer));
 }
 
 /// The deepest call and its format.
-fn deepest(formatter: Formatter, formats: &[String], records: &[FlatRecord]) -> (usize, String) {
+fn deepest(formatter: Formatter, formats: &[Read], records: &[FlatRecord]) -> (usize, String) {
     let mut buffer = vec![0; library::LONGEST_BUFFER];
     let mut stack = Stack::new();
-    let base = stack.depth(|| nothing(b"", records[0], &mut buffer));
+    let base = stack.depth(|| nothing(&formats[0], records[0], &mut buffer));
     let mut deepest = (base, String::new());
-    for format in formats {
+    for read in formats {
         for record in records {
-            let depth = stack.depth(|| formatter(format.as_bytes(), *record, &mut buffer));
+            let depth = stack.depth(|| formatter(read, *record, &mut buffer));
             if depth > deepest.0 {
-                deepest = (depth, format.clone());
+                deepest = (depth, String::from_utf8_lossy(&read.format).into_owned());
             }
         }
     }
@@ -296,9 +352,11 @@ fn print_stacks(timed: &[&str], sales: &[FlatRecord]) {
         "deepest stack over {} formats, in bytes, and its format",
         formats.len()
     );
-    let formatters: [(&str, Formatter); 4] = [
+    let formatters: [(&str, Formatter); 6] = [
         ("library", with_library),
         ("library, in runs", with_runs),
+        ("compiling", with_compile),
+        ("stored", with_stored),
         ("plain", with_plain),
         ("original", with_original),
     ];

@@ -1,48 +1,6 @@
 /* Calls gs_format as a C program does. It is C and C++. */
 
-#include "check.h"
-
-enum { GUARD = 64 };
-
-static const part no_zone = {NULL, 0};
-
-static gs_record sample(void) {
-    gs_record record;
-    record.year = 2024;
-    record.month = 2;
-    record.day = 29;
-    record.hour = 13;
-    record.minute = 5;
-    record.second = 9;
-    record.nanoseconds = 123456789;
-    record.day_of_week = 4;
-    record.day_of_year = 60;
-    record.to_int = 1709211909;
-    record.is_utc = 0;
-    record.utc_offset = 3600;
-    return record;
-}
-
-static void *block(size_t length) {
-    void *it = malloc(length);
-    if (it == NULL && length != 0) {
-        printf("there is no memory\n");
-        exit(2);
-    }
-    return it;
-}
-
-/* A copy in a block of just its length, so that valgrind sees a byte read behind it. */
-static uint8_t *copied(part it) {
-    uint8_t *copy = (uint8_t *)block(it.length);
-    if (it.length != 0)
-        memcpy(copy, it.bytes, it.length);
-    return copy;
-}
-
-static uint8_t mark(size_t at) {
-    return (uint8_t)(at * 7 + 129);
-}
+#include "lent.h"
 
 static int answered(int line, part format, gs_answer got, uint32_t refusal, size_t length) {
     if (got.refusal == refusal && got.length == length)
@@ -55,24 +13,10 @@ static int answered(int line, part format, gs_answer got, uint32_t refusal, size
 
 /* Within guard bytes: the text stands at the front, and every other byte is as it was. */
 static int guarded(int line, part format, part zone, gs_record record, size_t room, uint32_t refusal, part want) {
-    size_t all = GUARD + room + GUARD;
-    uint8_t *around = (uint8_t *)block(all);
-    int holds = 1;
-    for (size_t at = 0; at < all; at++)
-        around[at] = mark(at);
-    gs_answer got =
-        gs_format(format.bytes, format.length, zone.bytes, zone.length, record, around + GUARD, room);
-    holds &= answered(line, format, got, refusal, want.length);
-    for (size_t at = 0; at < all; at++) {
-        int in_text = GUARD <= at && at - GUARD < want.length;
-        uint8_t wanted = in_text ? want.bytes[at - GUARD] : mark(at);
-        if (around[at] != wanted) {
-            printf("line %d: byte %ld of the buffer is %d, wanted %d\n", line, (long)at - GUARD, around[at], wanted);
-            holds = 0;
-            break;
-        }
-    }
-    free(around);
+    uint8_t *buffer = marked(GUARD, room);
+    gs_answer got = gs_format(format.bytes, format.length, zone.bytes, zone.length, record, buffer, room);
+    int holds = answered(line, format, got, refusal, want.length) && stands(buffer, GUARD, room, want);
+    take_block_back(buffer, GUARD);
     return holds;
 }
 
@@ -80,7 +24,7 @@ static int guarded(int line, part format, part zone, gs_record record, size_t ro
 static int exact(int line, part format, part zone, gs_record record, size_t room, uint32_t refusal, part want) {
     uint8_t *lent_format = copied(format);
     uint8_t *lent_zone = copied(zone);
-    uint8_t *lent_buffer = (uint8_t *)block(room);
+    uint8_t *lent_buffer = block(room);
     gs_answer got = gs_format(lent_format, format.length, lent_zone, zone.length, record, lent_buffer, room);
     int holds = answered(line, format, got, refusal, want.length);
     if (holds && want.length != 0)
@@ -176,7 +120,7 @@ static void stamps_at_the_edges(void) {
 
 static void the_widest_year(void) {
     gs_record record = sample();
-    uint8_t *want = (uint8_t *)block(gs_LONGEST_BUFFER);
+    uint8_t *want = block(gs_LONGEST_BUFFER);
     memset(want, '0', gs_LONGEST_BUFFER);
     want[1] = '-';
     want[gs_LONGEST_BUFFER - 1] = '1';
@@ -229,7 +173,7 @@ static void null_with_0(void) {
 
 static void longest_inputs(void) {
     gs_record record = sample();
-    uint8_t *many = (uint8_t *)block(gs_LONGEST_BUFFER + 1);
+    uint8_t *many = block(gs_LONGEST_BUFFER + 1);
     memset(many, 'x', gs_LONGEST_BUFFER + 1);
     part format = bytes(many, gs_LONGEST_FORMAT), longer_format = bytes(many, gs_LONGEST_FORMAT + 1);
     part zone = bytes(many, gs_LONGEST_ZONE), longer_zone = bytes(many, gs_LONGEST_ZONE + 1);

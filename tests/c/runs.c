@@ -1,46 +1,8 @@
 /* Calls gs_runs_start, gs_runs_run, gs_runs_end and gs_runs_answer as a C program does. It is C and C++. */
 
-#include "check.h"
+#include "lent.h"
 
-static const part no_zone = {NULL, 0};
-
-static gs_record sample(void) {
-    gs_record record = {0};
-    record.year = 2024;
-    record.month = 2;
-    record.day = 29;
-    record.hour = 13;
-    record.minute = 5;
-    record.second = 9;
-    record.nanoseconds = 123456789;
-    record.day_of_week = 4;
-    record.day_of_year = 60;
-    record.to_int = 1709211909;
-    record.utc_offset = 3600;
-    return record;
-}
-
-static gs_record month_13(void) {
-    gs_record record = sample();
-    record.month = 13;
-    return record;
-}
-
-static uint8_t *block(size_t length) {
-    uint8_t *it = (uint8_t *)malloc(length);
-    if (it == NULL && length != 0) {
-        printf("there is no memory\n");
-        exit(2);
-    }
-    return it;
-}
-
-static uint8_t mark(size_t at) {
-    return (uint8_t)(at * 7 + 129);
-}
-
-/* A store and a buffer, each within guard bytes, or in blocks of just their lengths so that valgrind sees a byte
-   outside of them. */
+/* A store and a buffer. */
 typedef struct {
     size_t guard;
     size_t store_len;
@@ -48,14 +10,6 @@ typedef struct {
     uint8_t *store;
     uint8_t *buffer;
 } lent;
-
-static uint8_t *marked(size_t guard, size_t length) {
-    size_t all = guard + length + guard;
-    uint8_t *around = block(all);
-    for (size_t at = 0; at < all; at++)
-        around[at] = mark(at);
-    return around + guard;
-}
 
 static lent lend(size_t guard, size_t store_len, size_t room) {
     lent it;
@@ -68,22 +22,8 @@ static lent lend(size_t guard, size_t store_len, size_t room) {
 }
 
 static void take_back(lent it) {
-    free(it.store - it.guard);
-    free(it.buffer - it.guard);
-}
-
-/* The text in front, and every byte behind it and around it as it was. */
-static int stands(const uint8_t *place, size_t guard, size_t length, part text) {
-    const uint8_t *around = place - guard;
-    for (size_t at = 0; at < guard + length + guard; at++) {
-        int in_text = guard <= at && at - guard < text.length;
-        uint8_t wanted = in_text ? text.bytes[at - guard] : mark(at);
-        if (around[at] != wanted) {
-            printf("byte %ld is %d, wanted %d\n", (long)at - (long)guard, around[at], wanted);
-            return 0;
-        }
-    }
-    return 1;
+    take_block_back(it.store, it.guard);
+    take_block_back(it.buffer, it.guard);
 }
 
 static int buffer_has(const lent *it, part text) {
@@ -101,9 +41,7 @@ static gs_runs started(const lent *it, size_t total, part zone) {
 }
 
 static gs_runs ran(gs_runs runs, const lent *it, part run, part zone, gs_record record) {
-    uint8_t *copy = block(run.length);
-    if (run.length != 0)
-        memcpy(copy, run.bytes, run.length);
+    uint8_t *copy = copied(run);
     runs = gs_runs_run(runs, copy, run.length, zone.bytes, zone.length, record, it->store, it->store_len, it->buffer,
                        it->room);
     free(copy);

@@ -6,61 +6,18 @@ use crate::course::{Call, Course};
 use crate::deviated;
 use crate::deviations::DEVIATIONS;
 use crate::judge::Case;
-use crate::library::{self, LONGEST_BUFFER, LONGEST_FORMAT};
+use crate::lent::{Lender, Lent};
+use crate::library::{self, LONGEST_FORMAT};
 use crate::line::encoded;
 use crate::lot::Lot;
 use crate::record;
 use crate::runs_library::{self, Runs};
 use crate::stream::{left_by, Left, Stream};
 
-const GUARD: usize = 64;
-const REFUSALS: [u32; 9] = [0, 1, 2, 3, 4, 5, 6, 7, 10];
-
-/// A block within guard bytes; or of just its length, so that valgrind sees a byte outside of it.
-struct Lent {
-    guard: usize,
-    around: Vec<u8>,
-}
-
-impl Lent {
-    fn new(exact: bool, length: usize, marks: &[u8]) -> Self {
-        let guard = if exact { 0 } else { GUARD };
-        Lent {
-            guard,
-            around: marks[GUARD - guard..GUARD + length + guard].to_vec(),
-        }
-    }
-
-    fn bytes(&mut self) -> &mut [u8] {
-        let end = self.around.len() - self.guard;
-        &mut self.around[self.guard..end]
-    }
-
-    /// The first byte, from the block's start, that isn't as it should be.
-    fn fault(&self, want: &[u8], marks: &[u8]) -> Option<(i64, u8)> {
-        let end = self.guard + want.len();
-        let marks = &marks[GUARD - self.guard..];
-        let found = [
-            &self.around[..self.guard],
-            &self.around[self.guard..end],
-            &self.around[end..],
-        ];
-        let wanted = [&marks[..self.guard], want, &marks[end..end + self.guard]];
-        if found == wanted {
-            return None;
-        }
-        let place = self
-            .around
-            .iter()
-            .zip(wanted.concat())
-            .position(|(a, b)| *a != b)?;
-        Some((place as i64 - self.guard as i64, self.around[place]))
-    }
-}
+const REFUSALS: [u32; 10] = [0, 1, 2, 3, 4, 5, 6, 7, 10, 11];
 
 pub struct ByRuns {
-    exact: bool,
-    marks: Vec<u8>,
+    lender: Lender,
     answers: [u64; 11],
     calls: u64,
     after_refusals: u64,
@@ -74,11 +31,8 @@ pub struct ByRuns {
 
 impl ByRuns {
     pub fn new(exact: bool) -> Self {
-        let mut lot = Lot::new(0);
-        let length = GUARD + LONGEST_BUFFER + 1 + GUARD;
         ByRuns {
-            exact,
-            marks: (0..length).map(|_| lot.any() as u8).collect(),
+            lender: Lender::new(exact),
             answers: [0; 11],
             calls: 0,
             after_refusals: 0,
@@ -91,13 +45,17 @@ impl ByRuns {
         }
     }
 
-    fn lend(&self, length: usize) -> Lent {
-        Lent::new(self.exact, length, &self.marks)
+    /// Store and buffer.
+    fn lend(&self, course: &Course) -> (Lent, Lent) {
+        (
+            self.lender.lend(course.store),
+            self.lender.lend(course.case.room),
+        )
     }
 
     pub fn try_course(&mut self, course: &Course) {
         let case = &course.case;
-        let (mut store, mut buffer) = (self.lend(course.store), self.lend(case.room));
+        let (mut store, mut buffer) = self.lend(course);
         let mut want = Stream::start(*case, course.total, store.bytes(), buffer.bytes());
         let mut runs = runs_library::start(course.total, case.zone, store.bytes(), buffer.bytes());
         let mut fault = self.fault(&want, runs, &store, &buffer);
@@ -166,8 +124,9 @@ impl ByRuns {
             ("buffer", buffer, &want.buffer),
             ("store", store, &want.store),
         ] {
-            if let Some((place, byte)) = block.fault(wanted, &self.marks) {
-                return Some(format!("byte {place} of the {name} is {byte}"));
+            let fault = self.lender.fault(name, block, wanted);
+            if fault.is_some() {
+                return fault;
             }
         }
         None
@@ -176,7 +135,7 @@ impl ByRuns {
     /// The format at once: by the entry, by the judge, and by the original as it stands.
     fn whole_fault(&mut self, case: &Case, want: &Stream) -> Option<String> {
         let (numbers, answer) = (want.numbers(), want.answer());
-        let mut buffer = self.marks[GUARD..GUARD + case.room].to_vec();
+        let mut buffer = self.lender.marks(case.room).to_vec();
         let entry = library::format(case.format, case.zone, case.record, &mut buffer);
         if entry.refusal != answer.refusal || entry.length as usize != answer.length {
             return Some(format!(
@@ -202,7 +161,7 @@ impl ByRuns {
                 && (told.is_ok() || left.reach == numbers.written)
                 && buffer == want.buffer
         };
-        let mut slice = self.marks[GUARD..GUARD + case.room].to_vec();
+        let mut slice = self.lender.marks(case.room).to_vec();
         let left = left_by(
             |place| deviated::strftime(&time, case.format, place),
             &mut slice,
@@ -217,7 +176,7 @@ impl ByRuns {
             return None;
         }
         self.standing += 1;
-        let mut slice = self.marks[GUARD..GUARD + case.room].to_vec();
+        let mut slice = self.lender.marks(case.room).to_vec();
         let left = left_by(
             |place| record::strftime(&time, case.format, place),
             &mut slice,
@@ -230,7 +189,7 @@ impl ByRuns {
     /// lent.
     pub fn try_forged(&mut self, lot: &mut Lot, course: &Course) {
         let case = &course.case;
-        let (mut store, mut buffer) = (self.lend(course.store), self.lend(case.room));
+        let (mut store, mut buffer) = self.lend(course);
         let forged = forged_runs(lot, course);
         let mut runs = forged;
         let mut fault = None;
@@ -258,9 +217,7 @@ impl ByRuns {
         self.forged += 1;
         for (name, block) in [("buffer", &mut buffer), ("store", &mut store)] {
             let within = block.bytes().to_vec();
-            if let Some((place, byte)) = block.fault(&within, &self.marks) {
-                fault = Some(format!("byte {place} of the {name} is {byte}"));
-            }
+            fault = self.lender.fault(name, block, &within).or(fault);
         }
         self.count(fault, || format!("{forged:?}\n{}", described(course)));
     }

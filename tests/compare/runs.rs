@@ -10,6 +10,8 @@ mod deviations;
 mod formats;
 #[allow(dead_code)]
 mod judge;
+#[allow(dead_code)]
+mod lent;
 mod library;
 mod line;
 mod lot;
@@ -20,24 +22,19 @@ mod records;
 mod runs_library;
 mod settled;
 mod stream;
+mod words;
 
 use by_runs::ByRuns;
 use course::{any_course, any_format_to_cut};
 use judge::{Case, Judge};
-use lot::{seed_and_count, Lot};
+use lot::Lot;
 use random::{any_room, any_zone};
 use records::any_record;
 use std::process::ExitCode;
+use words::{words_of, Words};
 
 fn main() -> ExitCode {
-    let mut words: Vec<String> = std::env::args().skip(1).collect();
-    let exact = words.first().is_some_and(|word| word == "--exact");
-    if exact {
-        words.remove(0);
-    }
-    let Some((seed, count)) = seed_and_count(&words) else {
-        eprintln!("usage: runs [--exact] SEED COUNT");
-        eprintln!("--exact: each in blocks of just its lengths");
+    let Some(Words { exact, seed, count }) = words_of("runs") else {
         return ExitCode::from(2);
     };
     let mut lot = Lot::new(seed);

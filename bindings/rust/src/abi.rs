@@ -1,6 +1,6 @@
 //! include/groatsaddle.h in Rust.
 
-use crate::Time;
+use crate::{Error, Time};
 
 #[repr(C)]
 #[derive(Clone, Copy)]
@@ -43,6 +43,15 @@ impl Record {
 pub(crate) struct Answer {
     pub refusal: u32,
     pub length: u32,
+}
+
+impl Answer {
+    pub(crate) fn length(self) -> Result<usize, Error> {
+        match self.refusal {
+            0 => Ok(self.length as usize),
+            refusal => Err(Error::numbered(refusal)),
+        }
+    }
 }
 
 #[repr(C)]
@@ -135,4 +144,22 @@ extern "C" {
     ) -> Runs;
 
     pub(crate) fn gs_runs_answer(runs: Runs) -> Progress;
+
+    pub(crate) fn gs_compile(
+        format: *const u8,
+        format_len: usize,
+        stored: *mut u8,
+        stored_len: usize,
+    ) -> Answer;
+
+    pub(crate) fn gs_format_stored(
+        stored: *const u8,
+        stored_len: usize,
+        format_len: usize,
+        zone: *const u8,
+        zone_len: usize,
+        record: Record,
+        buffer: *mut u8,
+        buffer_len: usize,
+    ) -> Answer;
 }

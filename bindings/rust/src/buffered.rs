@@ -30,8 +30,5 @@ pub fn strftime<'a>(
             buf.len(),
         )
     };
-    match answer.refusal {
-        0 => Ok(&mut buf[..answer.length as usize]),
-        refusal => Err(Error::numbered(refusal)),
-    }
+    Ok(&mut buf[..answer.length()?])
 }

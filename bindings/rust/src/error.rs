@@ -1,6 +1,6 @@
 use core::fmt;
 
-/// Why there is no text, no record or no count. The original's names, and four that are added.
+/// Why there is no text, no record or no count. The original's names, and five that are added.
 #[derive(Debug, Clone, Copy, PartialEq, Eq)]
 #[non_exhaustive]
 pub enum Error {
@@ -11,7 +11,7 @@ pub enum Error {
     InvalidFormatString,
     /// Padding would take the text past 524,288 bytes for each byte of the format.
     FormattedStringTooLarge,
-    /// The buffer is too short for the text, or the store for the format.
+    /// The buffer is too short for the text, the store for the format, or the place for the stored form.
     WriteZero,
     /// The format, a run of it, the zone name or the buffer is longer than the library takes. Not the
     /// original's.
@@ -25,6 +25,9 @@ pub enum Error {
     /// The runs of a format bring more bytes than were said, or fewer. Not the original's; only
     /// [`Runs`](crate::Runs) gives it.
     LengthMismatch,
+    /// The bytes are no stored form. Not the original's; only
+    /// [`Compiled::from_stored`](crate::Compiled::from_stored) gives it.
+    BadStored,
 }
 
 impl Error {
@@ -38,6 +41,7 @@ impl Error {
             6 => Error::NoBuffer,
             7 => Error::OutOfRange,
             10 => Error::LengthMismatch,
+            11 => Error::BadStored,
             other => unreachable!("the library has no refusal {other}"),
         }
     }
@@ -54,6 +58,7 @@ impl fmt::Display for Error {
             Error::NoBuffer => "no buffer is long enough",
             Error::OutOfRange => "out of range",
             Error::LengthMismatch => "length mismatch",
+            Error::BadStored => "no stored form",
         })
     }
 }

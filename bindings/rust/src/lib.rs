@@ -31,7 +31,7 @@
 //! ```
 //!
 //! A [`Record`] is such a time too, and is made from a count of seconds. [`Runs`] takes a format that
-//! arrives in parts.
+//! arrives in parts, and [`Compiled`] reads one once and runs it many times.
 //!
 //! Text and errors are the original's, but for these: an error changes no byte of the buffer, every
 //! method of [`Time`] is called once whatever the format reads, day 366 of a common year and a zone
@@ -44,12 +44,14 @@
 
 mod abi;
 pub mod buffered;
+mod compiled;
 mod error;
 mod record;
 mod runs;
 mod size;
 mod time;
 
+pub use compiled::Compiled;
 pub use error::Error;
 pub use record::Record;
 pub use runs::Runs;
@@ -64,6 +66,8 @@ pub const LONGEST_ZONE: usize = 64;
 pub const LONGEST_BUFFER: usize = 65_536;
 /// The longest run of a format, in bytes.
 pub const LONGEST_RUN: usize = 32;
+/// The longest stored form of a format, in bytes.
+pub const LONGEST_STORED: usize = 22_534;
 
 /// Format string used by Ruby's `Time#asctime`.
 pub const ASCTIME_FORMAT_STRING: &str = "%c";

@@ -15,8 +15,5 @@ use crate::Error;
 pub fn size(format: &[u8], longest_zone: usize) -> Result<usize, Error> {
     // SAFETY: the pointer has the length of its slice beside it.
     let answer = unsafe { gs_size(format.as_ptr(), format.len(), longest_zone) };
-    match answer.refusal {
-        0 => Ok(answer.length as usize),
-        refusal => Err(Error::numbered(refusal)),
-    }
+    answer.length()
 }

@@ -1,25 +1,10 @@
 //! A format in runs, which the original does not have.
 
+mod sale;
+
 use groatsaddle::buffered::strftime;
 use groatsaddle::{Error, Record, Runs, LONGEST_BUFFER, LONGEST_FORMAT, LONGEST_RUN, LONGEST_ZONE};
-
-const SALE: Record = Record {
-    year: 2024,
-    month: 2,
-    day: 29,
-    hour: 13,
-    minute: 5,
-    second: 9,
-    nanoseconds: 123_456_789,
-    day_of_week: 4,
-    day_of_year: 60,
-    to_int: 1_709_211_909,
-    is_utc: false,
-    utc_offset: 3600,
-    time_zone: "CET",
-};
-
-const MONTH_13: Record = Record { month: 13, ..SALE };
+use sale::{MONTH_13, SALE};
 
 /// The answer, the text that is left, and the buffer, which was all dots.
 fn by_runs(

@@ -1,6 +1,4 @@
 // Ports `Piece::fmt` of mod.rs: a directive, by its kind.
-ghost use Prim.Native.Nat.{_≤_};
-ghost use Rattle.rules.specs.Record.{longestBuffer};
 ghost use Rattle.rules.specs.Writing.{eventsOf};
 ghost use Rattle.text.specs.Ran.{Ran};
 ghost use Rattle.text.specs.Room.{Room};
@@ -26,7 +24,7 @@ pub fn directive(
     record: Record,
     zone: &[u8],
 ) -> usize
-    requires { ⌜ Room (now out) room × (longestBuffer ≤ limit) ⌝ }
+    requires { ⌜ Room (now out) room ⌝ }
     ensures { λ r. ⌜ Ran limit room (eventsOf «record» (now (zone .entry)) piece) (now (out .entry)) at (now (out .exit)) r ⌝ }
 {
     let spec = piece.spec;

@@ -56,13 +56,14 @@ done-small format zone r room text e =
       ]
     ]
 
-pub report-small : (format zone : List ℕ) (r : Record) (room : ℕ) → reported (formatted format zone r room) .bytes ≤ longestBuffer
+-- the length that an outcome reports
+pub outcome-small : (o : Outcome) → ((text : List ℕ) → o ≡ done text → length text ≤ longestBuffer) → reported o .bytes ≤ longestBuffer
 unfolding reported
-report-small format zone r room = go (formatted format zone r room) refl
-  where
-    go : (o : Outcome) → formatted format zone r room ≡ o → reported o .bytes ≤ longestBuffer
-    go (done text) e = done-small format zone r room text e
-    go (refused number) e = omega arith
+outcome-small (done text) small = small text refl
+outcome-small (refused number) small = omega arith
+
+pub report-small : (format zone : List ℕ) (r : Record) (room : ℕ) → reported (formatted format zone r room) .bytes ≤ longestBuffer
+report-small format zone r room = outcome-small (formatted format zone r room) (done-small format zone r room)
 
 -- ## The answer
 
@@ -83,10 +84,10 @@ module _ (a : Answer) where
   unfolding reportFrom numbered
   from-refused e f = rw (e, f)
 
--- a C caller's answer and buffer are what an outcome asks
-module _ (format zone before : List ℕ) {t u : Record} (s : t ≡ u) {after : List ℕ} where
-  pub answered : {report : Report} (g : GsAnswer) → reportFrom g ≡ report → report ≡ reported (formatted format zone t (length before)) → after ≡ bufferAfter (formatted format zone t (length before)) before →
-      (reportFrom g ≡ reported (formatted format zone u (length before))) × (after ≡ bufferAfter (formatted format zone u (length before)) before)
+-- a C caller's answer and buffer are what an outcome of its record asks
+module _ (outcome : Record → Outcome) (before : List ℕ) {t u : Record} (s : t ≡ u) {after : List ℕ} where
+  pub answered : {report : Report} (g : GsAnswer) → reportFrom g ≡ report → report ≡ reported (outcome t) → after ≡ bufferAfter (outcome t) before →
+      (reportFrom g ≡ reported (outcome u)) × (after ≡ bufferAfter (outcome u) before)
   answered g e h k = rw (← s) (e ∙ h, k)
 
 pub sized : (format : List ℕ) (longest : ℕ) {report : Report} (g : GsAnswer) → reportFrom g ≡ report → report ≡ sizeOf format longest → Sizing (AnyStamp longest) (GoodStamp longest) format longest report →

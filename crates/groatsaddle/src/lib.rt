@@ -1,11 +1,14 @@
-// The entries over the C ABI: lib.rs of the original, sizing, a record from a count and back, and a format in runs.
+// The entries over the C ABI: lib.rs of the original, sizing, a record from a count and back, a format in runs, and a compiled format.
 // `include/groatsaddle.h` declares them.
 mod by_runs;
+mod by_stored;
 
 pub use by_runs::gs_runs_answer;
 pub use by_runs::gs_runs_end;
 pub use by_runs::gs_runs_run;
 pub use by_runs::gs_runs_start;
+pub use by_stored::gs_compile;
+pub use by_stored::gs_format_stored;
 ghost use mathlib.Core.Path.{_≡_};
 ghost use Prim.Native.Nat.{_≤_};
 ghost use lib.ListN.{length};

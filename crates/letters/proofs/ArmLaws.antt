@@ -40,8 +40,8 @@ module _ {limit room : ℕ} (r : Record) (zone : List ℕ) (s : Spec) {l l′ : 
   known-two (inr e) f g w = known e g w
 
 -- a number, by its value
-pub of-value : {limit room : ℕ} (r : Record) (zone : List ℕ) (m : Number) {b k : ℕ} {v : Value} {l l′ : List ℕ} {n n′ : ℕ} → 65536 ≤ limit → b ≡ k → specOf k ≡ Is (number m) → ValueIs m r v → Printed room v l n l′ n′ → Lettered limit room b r zone l n l′ n′
-of-value {limit} r zone m h e f is w = known r zone (number m) e f (w limit m r zone h is)
+pub of-value : {limit room : ℕ} (r : Record) (zone : List ℕ) (m : Number) {b k : ℕ} {v : Value} {l l′ : List ℕ} {n n′ : ℕ} → b ≡ k → specOf k ≡ Is (number m) → ValueIs m r v → Printed room v l n l′ n′ → Lettered limit room b r zone l n l′ n′
+of-value {limit} r zone m e f is w = known r zone (number m) e f (w limit m r zone is)
 
 pub exact : {ok : Bool} {v : ℤ} {width : ℕ} {space : Bool} → width ≤ 5 → Valued ok v width space (valued ok v width space)
 exact h = record { is = refl; narrow = h }

@@ -19,12 +19,12 @@ use Rattle.letters.specs.Printed.{valued, Printed}
 module _ (ok : Bool) (v : ℤ) (w : ℕ) (space : Bool) {verdict : ℕ} (judges : verdict ≡ verdictBy ok) {room : ℕ} {l : List ℕ} {n n′ : ℕ} where
   -- a field out of range stops at once
   pub refused : (verdict ≡ 0 → ⊥) → ((limit room : ℕ) (l : List ℕ) → Ran limit room (judged verdict ∷ []) l n l n′) → Printed room (valued ok v w space) l n l n′
-  refused h f = λ limit k r zone g is. number-failed k _ r zone is judges h (f limit room l)
+  refused h f = λ limit k r zone is. number-failed k _ r zone is judges h (f limit room l)
 
   -- else the number is filled by its own fill to its own width
   pub written : {l′ t : List ℕ} → verdict ≡ 0 → w ≤ 65535 → t ≡ filled (fillWith (not space)) w v → ((limit : ℕ) → Ran limit room (write (put t) ∷ []) l n l′ n′) → Printed room (valued ok v w space) l n l′ n′
   written z h e f =
-      λ limit k r zone g is. number-held k _ r zone is judges z refl (own-fill space) refl refl (narrow _ w v h g (said e (f limit)))
+      λ limit k r zone is. number-held k _ r zone is judges z refl (own-fill space) refl refl (narrow _ w v h (said e (f limit)))
 
 -- ## The digits
 

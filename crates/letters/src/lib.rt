@@ -2,8 +2,6 @@
 mod leaves;
 pub mod short;
 
-ghost use Prim.Native.Nat.{_≤_};
-ghost use Rattle.rules.specs.Record.{longestBuffer};
 ghost use Rattle.text.specs.Room.{Room};
 ghost use Rattle.letters.specs.Letter.{Lettered};
 use leaves::decimal;
@@ -45,13 +43,13 @@ pub fn letter(
     record: Record,
     zone: &[u8],
 ) -> usize
-    requires { ⌜ Room (now out) room × (longestBuffer ≤ limit) ⌝ }
+    requires { ⌜ Room (now out) room ⌝ }
     ensures { λ r. ⌜ Lettered limit room b «record» (now (zone .entry)) (now (out .entry)) at (now (out .exit)) r ⌝ }
 {
     match b {
-        b'%' => plain_fixed(out, at, room, limit, Fixed::Percent),
-        b'A' => plain_name(out, at, room, limit, Name::WeekDayName, record),
-        b'B' => plain_name(out, at, room, limit, Name::MonthName, record),
+        b'%' => plain_fixed(out, at, room, Fixed::Percent),
+        b'A' => plain_name(out, at, room, Name::WeekDayName, record),
+        b'B' => plain_name(out, at, room, Name::MonthName, record),
         b'C' => decimal(out, at, room, div_euclid_100(record.year) as i64, 2),
         b'D' | b'x' => {
             let next = pad_none(out, at, room, limit);
@@ -67,7 +65,7 @@ pub fn letter(
         b'L' => fraction(out, at, room, limit, 3, record),
         b'M' => two_or(out, at, room, fields::minute(record), record.minute),
         b'N' => fraction(out, at, room, limit, 9, record),
-        b'P' => plain_name(out, at, room, limit, Name::MeridianLower, record),
+        b'P' => plain_name(out, at, room, Name::MeridianLower, record),
         b'R' => {
             let next = pad_none(out, at, room, limit);
             combination_directive::hour_minute24h(out, next, room, record)
@@ -93,9 +91,9 @@ pub fn letter(
             week_of(record, WeekStart::Monday),
         ),
         b'Y' => year_or(out, at, room, true, record.year as i64),
-        b'Z' => plain_zone_name(out, at, room, limit, zone),
-        b'a' => plain_name(out, at, room, limit, Name::WeekDayNameAbbr, record),
-        b'b' | b'h' => plain_name(out, at, room, limit, Name::MonthNameAbbr, record),
+        b'Z' => plain_zone_name(out, at, room, zone),
+        b'a' => plain_name(out, at, room, Name::WeekDayNameAbbr, record),
+        b'b' | b'h' => plain_name(out, at, room, Name::MonthNameAbbr, record),
         b'c' => {
             let next = pad_none(out, at, room, limit);
             combination_directive::date_time(out, next, room, record, false)
@@ -119,14 +117,14 @@ pub fn letter(
         b'k' => spaced_or(out, at, room, fields::hour(record), record.hour),
         b'l' => spaced_or(out, at, room, fields::hour(record), hour12(record.hour)),
         b'm' => two_or(out, at, room, fields::month(record), record.month),
-        b'n' => plain_fixed(out, at, room, limit, Fixed::Newline),
-        b'p' => plain_name(out, at, room, limit, Name::MeridianUpper, record),
+        b'n' => plain_fixed(out, at, room, Fixed::Newline),
+        b'p' => plain_name(out, at, room, Name::MeridianUpper, record),
         b'r' => {
             let next = pad_none(out, at, room, limit);
             combination_directive::time12h(out, next, room, record)
         }
         b's' => decimal(out, at, room, record.to_int, 1),
-        b't' => plain_fixed(out, at, room, limit, Fixed::Tabulation),
+        b't' => plain_fixed(out, at, room, Fixed::Tabulation),
         b'u' => one_or(
             out,
             at,

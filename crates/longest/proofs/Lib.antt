@@ -4,7 +4,6 @@ pub mod BySets
 pub mod Checks
 pub mod Combinations
 pub mod Extremes
-pub mod Faults
 pub mod Fitting
 pub mod Growth
 pub mod Lengths

@@ -18,7 +18,7 @@ use Rattle.rules.specs.Size.{Stamps, Excused, SizeIs, NoneServes, Kept, Sizing,
 use Rattle.rules.proofs.EventLaws.{run-done}
 use Rattle.longest.specs.Witness.{refuses, needing}
 use Rattle.longest.proofs.Fitting.{ThreeOrFour}
-use Rattle.longest.proofs.Faults.{fault-by-event, valid-of, faultless}
+use Rattle.rules.proofs.Faults.{fault-by-event, valid-of, faultless}
 use Rattle.longest.proofs.Members.{Sets, member-unchecked}
 
 -- neither the size limit nor the room is an excuse

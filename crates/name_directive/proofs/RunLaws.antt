@@ -2,7 +2,7 @@
 use mathlib.Core.Path.{_≡_, refl, sym, ap, _∙_}
 use mathlib.Core.Bool.{Bool, true, false, cond}
 use mathlib.Core.List.{List, [], _∷_, map, map-append}
-use Prim.Native.Nat.{ℕ, _≤_}
+use Prim.Native.Nat.{ℕ}
 use native.Mathlib.Nat.{zero-sub}
 use native.Mathlib.Omega.{arith}
 use lib.ListN.{length}
@@ -46,10 +46,10 @@ module _ {limit room : ℕ} where
       same-events (sym (map-append write (padding p (length t)) (put t ∷ [])))
       (same-events (ap (λ (k : ℕ). map write (padding p k)) e) v then w)
 
-  pub plain-written : (s : Spec) (t : List ℕ) {l l′ : List ℕ} {n r : ℕ} → 65536 ≤ limit → Ran limit room (write (put t) ∷ []) l n l′ r → Ran limit room (map write (nameWrites (plainPiece s) t)) l n l′ r
+  pub plain-written : (s : Spec) (t : List ℕ) {l l′ : List ℕ} {n r : ℕ} → Ran limit room (write (put t) ∷ []) l n l′ r → Ran limit room (map write (nameWrites (plainPiece s) t)) l n l′ r
   unfolding nameWrites
-  plain-written s t h w =
-      same-events (ap (λ (k : ℕ). write (pad 32 k) ∷ write (put t) ∷ []) (sym (zero-sub (length t)))) (pad-none h w)
+  plain-written s t w =
+      same-events (ap (λ (k : ℕ). write (pad 32 k) ∷ write (put t) ∷ []) (sym (zero-sub (length t)))) (pad-none w)
 
   -- ## Names
 
@@ -70,10 +70,10 @@ module _ {limit room : ℕ} where
       name-held n p r zone e j z
       (written p (inCase (caseOf n (p .flags)) (nameOf n r)) (h ∙ ap length (letters-are n p r k q)) v (cased n p r k q w))
 
-  pub plain-named : (n : Name) (r : Record) (zone : List ℕ) {ok capital : Bool} {verdict k : ℕ} {l l′ : List ℕ} {a b : ℕ} → ok ≡ allOk (nameFields n) r zone → verdict ≡ verdictBy ok → verdict ≡ 0 → k ≡ nameNumber n r → capital ≡ capitals n noFlags → 65536 ≤ limit → Ran limit room (write (put (lettersOf n capital k)) ∷ []) l a l′ b → Ran limit room (specEvents (name n) (plainPiece (name n)) r zone) l a l′ b
-  plain-named n r zone e j z k q h w =
+  pub plain-named : (n : Name) (r : Record) (zone : List ℕ) {ok capital : Bool} {verdict k : ℕ} {l l′ : List ℕ} {a b : ℕ} → ok ≡ allOk (nameFields n) r zone → verdict ≡ verdictBy ok → verdict ≡ 0 → k ≡ nameNumber n r → capital ≡ capitals n noFlags → Ran limit room (write (put (lettersOf n capital k)) ∷ []) l a l′ b → Ran limit room (specEvents (name n) (plainPiece (name n)) r zone) l a l′ b
+  plain-named n r zone e j z k q w =
       name-held n (plainPiece (name n)) r zone e j z
-      (plain-written (name n) (inCase (caseOf n noFlags) (nameOf n r)) h (cased n (plainPiece (name n)) r k q w))
+      (plain-written (name n) (inCase (caseOf n noFlags) (nameOf n r)) (cased n (plainPiece (name n)) r k q w))
 
   -- ## Zone names
 
@@ -96,9 +96,9 @@ module _ {limit room : ℕ} where
       zone-held p r zone e j h v
       (written p (inCase (zoneCase (p .flags)) zone) (sym (length-cased (zoneCase (p .flags)) zone)) w x)
 
-  pub plain-zone-named : (r : Record) (zone : List ℕ) {ok : Bool} {verdict : ℕ} {l l′ l″ : List ℕ} {a m b : ℕ} → ok ≡ zoneOk zone → verdict ≡ verdictBy ok → (length zone ≡ 0 → ⊥) → 65536 ≤ limit → Ran limit room (judged verdict ∷ []) l a l′ m → Ran limit room (write (put zone) ∷ []) l′ m l″ b → Ran limit room (specEvents TimeZoneName (plainPiece TimeZoneName) r zone) l a l″ b
+  pub plain-zone-named : (r : Record) (zone : List ℕ) {ok : Bool} {verdict : ℕ} {l l′ l″ : List ℕ} {a m b : ℕ} → ok ≡ zoneOk zone → verdict ≡ verdictBy ok → (length zone ≡ 0 → ⊥) → Ran limit room (judged verdict ∷ []) l a l′ m → Ran limit room (write (put zone) ∷ []) l′ m l″ b → Ran limit room (specEvents TimeZoneName (plainPiece TimeZoneName) r zone) l a l″ b
   unfolding inCase
-  plain-zone-named r zone e j h g v w = zone-held (plainPiece TimeZoneName) r zone e j h v (plain-written TimeZoneName zone g w)
+  plain-zone-named r zone e j h v w = zone-held (plainPiece TimeZoneName) r zone e j h v (plain-written TimeZoneName zone w)
 
   -- ## Single bytes
 
@@ -112,5 +112,5 @@ module _ {limit room : ℕ} where
   pub fixed-written : (f : Fixed) (p : Piece) (r : Record) (zone : List ℕ) {byte : ℕ} {l l′ l″ : List ℕ} {a m b : ℕ} → byte ≡ fixedByte f → Ran limit room (map write (padding p 1)) l a l′ m → Ran limit room (write (put (byte ∷ [])) ∷ []) l′ m l″ b → Ran limit room (specEvents (fixed f) p r zone) l a l″ b
   fixed-written f p r zone e v w = fixed-checked f p r zone (written p (fixedByte f ∷ []) refl v (byte-is f e w))
 
-  pub plain-fixed-written : (f : Fixed) (r : Record) (zone : List ℕ) {byte : ℕ} {l l′ : List ℕ} {a b : ℕ} → byte ≡ fixedByte f → 65536 ≤ limit → Ran limit room (write (put (byte ∷ [])) ∷ []) l a l′ b → Ran limit room (specEvents (fixed f) (plainPiece (fixed f)) r zone) l a l′ b
-  plain-fixed-written f r zone e h w = fixed-checked f (plainPiece (fixed f)) r zone (plain-written (fixed f) (fixedByte f ∷ []) h (byte-is f e w))
+  pub plain-fixed-written : (f : Fixed) (r : Record) (zone : List ℕ) {byte : ℕ} {l l′ : List ℕ} {a b : ℕ} → byte ≡ fixedByte f → Ran limit room (write (put (byte ∷ [])) ∷ []) l a l′ b → Ran limit room (specEvents (fixed f) (plainPiece (fixed f)) r zone) l a l′ b
+  plain-fixed-written f r zone e w = fixed-checked f (plainPiece (fixed f)) r zone (plain-written (fixed f) (fixedByte f ∷ []) (byte-is f e w))

@@ -9,7 +9,7 @@ ghost use Rattle.rules.specs.declared.Spec.the-variants as spec;
 ghost use Rattle.rules.specs.Event as event;
 ghost use Rattle.rules.specs.Name as letter;
 ghost use Rattle.rules.specs.Name.{inCase, zoneCase};
-ghost use Rattle.rules.specs.Record.{longestBuffer, allOk};
+ghost use Rattle.rules.specs.Record.{allOk};
 ghost use Rattle.rules.specs.Writing.{nameFields, fixedByte, specEvents};
 ghost use Rattle.text.specs.Overlay.{overlay};
 ghost use Rattle.text.specs.Ran.{Ran};
@@ -142,16 +142,9 @@ pub fn name(
     put_name(out, next, room, name, number, in_capitals(name, flags))
 }
 
-pub fn plain_name(
-    out: &mut [u8],
-    at: usize,
-    room: usize,
-    limit: usize,
-    name: Name,
-    record: Record,
-) -> usize
-    requires { ⌜ Room (now out) room × (longestBuffer ≤ limit) ⌝ }
-    ensures { λ r. ⌜ ((zone : List ℕ) → Ran limit room (specEvents (spec.Name name) (plainPiece (spec.Name name)) «record» zone) (now (out .entry)) at (now (out .exit)) r) ⌝ }
+pub fn plain_name(out: &mut [u8], at: usize, room: usize, name: Name, record: Record) -> usize
+    requires { ⌜ Room (now out) room ⌝ }
+    ensures { λ r. ⌜ ((limit : ℕ) (zone : List ℕ) → Ran limit room (specEvents (spec.Name name) (plainPiece (spec.Name name)) «record» zone) (now (out .entry)) at (now (out .exit)) r) ⌝ }
 {
     let verdict = fields::verdict(in_range(name, record));
     if verdict != 0 {
@@ -244,9 +237,9 @@ pub fn zone_name(
     put_zone(out, next, room, zone, flags)
 }
 
-pub fn plain_zone_name(out: &mut [u8], at: usize, room: usize, limit: usize, zone: &[u8]) -> usize
-    requires { ⌜ Room (now out) room × (longestBuffer ≤ limit) ⌝ }
-    ensures { λ r. ⌜ ((«record» : declared.Record) → Ran limit room (specEvents spec.TimeZoneName (plainPiece spec.TimeZoneName) «record» (now (zone .entry))) (now (out .entry)) at (now (out .exit)) r) ⌝ }
+pub fn plain_zone_name(out: &mut [u8], at: usize, room: usize, zone: &[u8]) -> usize
+    requires { ⌜ Room (now out) room ⌝ }
+    ensures { λ r. ⌜ ((limit : ℕ) («record» : declared.Record) → Ran limit room (specEvents spec.TimeZoneName (plainPiece spec.TimeZoneName) «record» (now (zone .entry))) (now (out .entry)) at (now (out .exit)) r) ⌝ }
 {
     let verdict = fields::verdict(fields::time_zone(zone));
     let judged = text::judged(at, verdict);
@@ -281,9 +274,9 @@ pub fn fixed(
     text::put_byte(out, next, room, fixed_byte(fixed))
 }
 
-pub fn plain_fixed(out: &mut [u8], at: usize, room: usize, limit: usize, fixed: Fixed) -> usize
-    requires { ⌜ Room (now out) room × (longestBuffer ≤ limit) ⌝ }
-    ensures { λ r. ⌜ ((«record» : declared.Record) (zone : List ℕ) → Ran limit room (specEvents (spec.Fixed fixed) (plainPiece (spec.Fixed fixed)) «record» zone) (now (out .entry)) at (now (out .exit)) r) ⌝ }
+pub fn plain_fixed(out: &mut [u8], at: usize, room: usize, fixed: Fixed) -> usize
+    requires { ⌜ Room (now out) room ⌝ }
+    ensures { λ r. ⌜ ((limit : ℕ) («record» : declared.Record) (zone : List ℕ) → Ran limit room (specEvents (spec.Fixed fixed) (plainPiece (spec.Fixed fixed)) «record» zone) (now (out .entry)) at (now (out .exit)) r) ⌝ }
 {
     text::put_byte(out, at, room, fixed_byte(fixed))
 }

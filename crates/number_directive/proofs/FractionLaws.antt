@@ -23,8 +23,8 @@ module _ (width nanos : ℕ) where
   fraction-writes c v z = cc
 
   -- up to nine digits no zeros follow
-  pub nine-or-fewer : {limit room power : ℕ} {l l′ : List ℕ} {n r : ℕ} → width ≤ 9 → power ≡ 10 ^ (9 - width) → room ≤ 65536 → 65536 ≤ limit → Ran limit room (write (put (places width (nanos / power))) ∷ []) l n l′ r → Ran limit room (map write (fractionWrites width nanos)) l n l′ r
-  nine-or-fewer h e g k w = same-events (fraction-writes (omega arith) (ap (λ (p : ℕ). nanos / p) e) (omega arith)) (pad-none-after g k w)
+  pub nine-or-fewer : {limit room power : ℕ} {l l′ : List ℕ} {n r : ℕ} → width ≤ 9 → power ≡ 10 ^ (9 - width) → Ran limit room (write (put (places width (nanos / power))) ∷ []) l n l′ r → Ran limit room (map write (fractionWrites width nanos)) l n l′ r
+  nine-or-fewer h e w = same-events (fraction-writes (omega arith) (ap (λ (p : ℕ). nanos / p) e) (omega arith)) (pad-none-after w)
 
   pub more-than-nine : {limit room : ℕ} {l l′ l″ : List ℕ} {n m r : ℕ} → 9 < width → Ran limit room (write (put (places 9 nanos)) ∷ []) l n l′ m → Ran limit room (write (pad 48 (width - 9)) ∷ []) l′ m l″ r → Ran limit room (map write (fractionWrites width nanos)) l n l″ r
   more-than-nine h v w =

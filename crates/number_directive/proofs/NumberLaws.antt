@@ -46,8 +46,8 @@ module _ (fill : Fill) (width : ℕ) (v : ℤ) where
   filled-events b e r = cc
 
   -- a width of at most 65,535 has no excess
-  pub narrow : {limit room : ℕ} {l l′ : List ℕ} {n r : ℕ} → width ≤ 65535 → 65536 ≤ limit → Ran limit room (write (put (filled fill width v)) ∷ []) l n l′ r → Ran limit room (map write (numberWrites false fill width v)) l n l′ r
-  narrow h g w = same-events (filled-events refl (omega arith) (omega arith)) (pad-none g w)
+  pub narrow : {limit room : ℕ} {l l′ : List ℕ} {n r : ℕ} → width ≤ 65535 → Ran limit room (write (put (filled fill width v)) ∷ []) l n l′ r → Ran limit room (map write (numberWrites false fill width v)) l n l′ r
+  narrow h w = same-events (filled-events refl (omega arith) (omega arith)) (pad-none w)
 
   pub wide : {limit room byte : ℕ} {l l′ l″ : List ℕ} {n m r : ℕ} → 65535 < width → byte ≡ fillByte fill → Ran limit room (write (pad byte (width - 65535)) ∷ []) l n l′ m → Ran limit room (write (put (filled fill 65535 v)) ∷ []) l′ m l″ r → Ran limit room (map write (numberWrites false fill width v)) l n l″ r
   wide h b p w = same-events (filled-events b refl (omega arith)) (p then w)

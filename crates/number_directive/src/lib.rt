@@ -2,10 +2,9 @@
 ghost use mathlib.Core.Path.{_≡_};
 ghost use mathlib.Core.Bool.{false};
 ghost use mathlib.Core.List.{List, _∷_, map};
-ghost use Prim.Native.Nat.{ℕ, _≤_};
+ghost use Prim.Native.Nat.{ℕ};
 ghost use Rattle.rules.specs.declared.Fraction as declared;
 ghost use Rattle.rules.specs.declared.Spec.the-variants as spec;
-ghost use Rattle.rules.specs.Record.{longestBuffer};
 ghost use Rattle.rules.specs.Event as event;
 ghost use Rattle.rules.specs.Writing.{numberWrites, fractionDigits, fractionWrites, verdictOf, specEvents};
 ghost use Rattle.text.specs.Ran.{Ran};
@@ -40,7 +39,7 @@ fn format_num(
     width: usize,
     zeros: bool,
 ) -> usize
-    requires { ⌜ Room (now out) room × (longestBuffer ≤ limit) ⌝ }
+    requires { ⌜ Room (now out) room ⌝ }
     ensures { λ r. ⌜ Ran limit room (map event.write (numberWrites false (fillWith zeros) width v)) (now (out .entry)) at (now (out .exit)) r ⌝ }
 {
     if width <= 65535 {
@@ -60,7 +59,7 @@ pub fn number(
     number: Number,
     record: Record,
 ) -> usize
-    requires { ⌜ Room (now out) room × (longestBuffer ≤ limit) ⌝ }
+    requires { ⌜ Room (now out) room ⌝ }
     ensures { λ r. ⌜ ((zone : List ℕ) → Ran limit room (specEvents (spec.Number number) piece «record» zone) (now (out .entry)) at (now (out .exit)) r) ⌝ }
 {
     let value = values::value_of(number, record);
@@ -97,7 +96,7 @@ fn format_nanoseconds(
     width: usize,
     nanoseconds: u32,
 ) -> usize
-    requires { ⌜ Room (now out) room × (longestBuffer ≤ limit) ⌝ }
+    requires { ⌜ Room (now out) room ⌝ }
     ensures { λ r. ⌜ Ran limit room (map event.write (fractionWrites width nanoseconds)) (now (out .entry)) at (now (out .exit)) r ⌝ }
 {
     if width <= 9 {
@@ -116,7 +115,7 @@ pub fn fraction(
     width: usize,
     record: Record,
 ) -> usize
-    requires { ⌜ Room (now out) room × (longestBuffer ≤ limit) ⌝ }
+    requires { ⌜ Room (now out) room ⌝ }
     ensures { λ r. ⌜ ((fraction : declared.Fraction) (zone : List ℕ) → Ran limit room (event.judged (verdictOf (spec.Fraction fraction) «record» zone) ∷ map event.write (fractionWrites width («record» .nanoseconds))) (now (out .entry)) at (now (out .exit)) r) ⌝ }
 {
     let verdict = fields::verdict(fields::nanoseconds(record));

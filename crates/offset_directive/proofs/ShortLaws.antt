@@ -68,7 +68,7 @@ two-padded hours k e =
 one-zero-pad : {limit room k : ℕ} (s d t : List ℕ) {l l′ : List ℕ} {n n′ : ℕ} → room + k ≤ limit → Ran limit room (write (put (s ++ ((replicate k 48 ++ d) ++ t))) ∷ []) l n l′ n′ → Ran limit room (write (put s) ∷ write (pad 48 k) ∷ write (put (d ++ t)) ∷ []) l n l′ n′
 one-zero-pad {k = k} s d t h w =
     let e : s ++ ((replicate k 48 ++ d) ++ t) ≡ (s ++ replicate k 48) ++ (d ++ t) = simp append-assoc in
-    pad-after h (parted {a = s} {b = replicate k 48} (parted {a = s ++ replicate k 48} {b = d ++ t} (said e w)))
+    pad-after (λ some. h) (parted {a = s} {b = replicate k 48} (parted {a = s ++ replicate k 48} {b = d ++ t} (said e w)))
 
 module _ (form : Form) (width : ℕ) (spaces : Bool) (p : OffsetParts) {length : ℕ} (told : length ≡ lengthOfForm form) (short : Short width length spaces (p .minus) (p .hours)) where
   events : write (put (signOf (p .minus))) ∷ write (pad 48 (p .extra)) ∷ write (put (digits (p .hours) ++ partsText form (p .minute) (p .second))) ∷ [] ≡ map write (partsWrites form (fillWith (not spaces)) width p)

@@ -3,21 +3,15 @@ use mathlib.Core.Path.{_≡_, refl, sym, ap, _∙_}
 use mathlib.Core.List.{List, [], _∷_, _++_, append-assoc, append-nil, map}
 use Prim.Native.Nat.{ℕ, _+_, _-_}
 use Rattle.rules.specs.Decimal.{digits, Fill, zeros, spaces}
-use Rattle.rules.specs.Event.{put, Event, write, bytesOf, textOf, Count, at, no, tally}
+use Rattle.rules.specs.Event.{put, Event, write, bytesOf, textOf, at, tally}
 use Rattle.rules.specs.Offset.{Form, hh, lengthOfForm, signAndPad}
-use Rattle.rules.proofs.EventLaws.{text-join, tally-join, tally-no}
+use Rattle.rules.proofs.EventLaws.{join-counts, text-join, tally-join}
 use Rattle.offset.specs.declared.OffsetParts.{OffsetParts}
 use Rattle.text.specs.Ran.{Ran}
-use Rattle.text.proofs.CountLaws.{join-counts}
 use Rattle.text.proofs.RanLaws.{_then_, same-events, alike}
 use Rattle.offset_directive.specs.Parts.{partsText, partsWrites}
 
 -- ## Two writes at the end are one
-
-module _ (limit room : ℕ) (a b : List ℕ) where
-  ends-alike : (c : Count) → tally limit room (write (put a) ∷ write (put b) ∷ []) c ≡ tally limit room (write (put (a ++ b)) ∷ []) c
-  ends-alike (at n) = join-counts limit room a b [] n
-  ends-alike (no number n) = tally-no limit room (write (put a) ∷ write (put b) ∷ []) number n ∙ sym (tally-no limit room (write (put (a ++ b)) ∷ []) number n)
 
 ends-say : (a b : List ℕ) → textOf (write (put a) ∷ write (put b) ∷ []) ≡ textOf (write (put (a ++ b)) ∷ [])
 unfolding textOf bytesOf
@@ -26,7 +20,7 @@ ends-say a b = sym (append-assoc a b [])
 joined-after : {limit room : ℕ} (es : List Event) (a b : List ℕ) {l l′ : List ℕ} {n n′ : ℕ} → Ran limit room ((es ++ (write (put a) ∷ [])) ++ (write (put b) ∷ [])) l n l′ n′ → Ran limit room (es ++ (write (put (a ++ b)) ∷ [])) l n l′ n′
 joined-after {limit} {room} es a b {n = n} w =
     alike
-    (λ h. tally-join limit room es (write (put a) ∷ write (put b) ∷ []) (at n) ∙ ends-alike limit room a b (tally limit room es (at n)) ∙ sym (tally-join limit room es (write (put (a ++ b)) ∷ []) (at n)))
+    (λ h. tally-join limit room es (write (put a) ∷ write (put b) ∷ []) (at n) ∙ join-counts limit room a b [] (tally limit room es (at n)) ∙ sym (tally-join limit room es (write (put (a ++ b)) ∷ []) (at n)))
     (text-join es (write (put a) ∷ write (put b) ∷ []) ∙ ap (λ (t : List ℕ). textOf es ++ t) (ends-say a b) ∙ sym (text-join es (write (put (a ++ b)) ∷ [])))
     (same-events (append-assoc es (write (put a) ∷ []) (write (put b) ∷ [])) w)
 

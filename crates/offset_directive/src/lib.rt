@@ -6,7 +6,6 @@ ghost use mathlib.Core.List.{List, [], _∷_, _++_, map};
 ghost use Prim.Native.Nat.{ℕ, _+_, _-_, _≤_, _<_};
 ghost use lib.IntN.{ℤ};
 ghost use Rattle.rules.specs.declared.Spec.the-variants as spec;
-ghost use Rattle.rules.specs.Record.{longestBuffer};
 ghost use Rattle.rules.specs.Event as event;
 ghost use Rattle.rules.specs.Decimal.{digits, two};
 ghost use Rattle.rules.specs.Offset.{Form, hh, hhmm, hh:mm, hh:mm:ss, minutesOf, secondsOf, minus, signOf, signAndPad, formOf, lengthOfForm, offsetWrites};
@@ -315,7 +314,7 @@ pub fn plain_offset(
     offset: Offset,
     record: Record,
 ) -> usize
-    requires { ⌜ Room (now out) room × (longestBuffer ≤ limit) ⌝ }
+    requires { ⌜ Room (now out) room ⌝ }
     ensures { λ r. ⌜ ((zone : List ℕ) → Ran limit room (specEvents (spec.Offset offset) (plainPiece (spec.Offset offset)) «record» zone) (now (out .entry)) at (now (out .exit)) r) ⌝ }
 {
     let is_utc = record.is_utc;

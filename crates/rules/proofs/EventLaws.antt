@@ -1,17 +1,36 @@
--- The laws of events: lists of them joined, a refusal that stays, a list that fits, a list that came to its end.
-use mathlib.Core.Path.{_≡_, refl, ap, _∙_}
+-- The laws of events: lists of them joined, a refusal that stays, two puts in one, a list that fits, a list that came to its end.
+use mathlib.Core.Path.{_≡_, refl, sym, ap, _∙_}
 use mathlib.Core.Bool.{Bool, true, false, not, cond}
 use mathlib.Core.List.{List, [], _∷_, _++_, append-assoc, map}
-use Prim.Native.Nat.{ℕ, _+_, _≤_, _<_}
+use Prim.Native.Nat.{ℕ, zero, suc, _+_, _≤_, _<_}
 use native.Mathlib.Omega.{arith}
+use borrow.Author.Tests.{ne-eqb, le-leb, lt-leb}
 use lib.Dec.{T, leb, leb→le, nleb→lt}
 use lib.ListN.{length, length-append, length-replicate}
-use Rattle.rules.specs.Event.{Write, put, pad, Event, write, check, bytesOf, writeLength, textOf, lengthOf, Count, at, no, roomFor, writeAt, one, tally, done, outcomeOf, run, Holds}
+use Rattle.rules.specs.Event.{Write, put, pad, Event, write, check, bytesOf, writeLength, textOf, lengthOf, Count, at, no, roomFor, withinLimit, writeAt, one, tally, done, outcomeOf, run, Holds}
 
 -- by the two outcomes of a test
 pub splitOn : {A : Type 0} (P : A → Type 0) (b : Bool) {x y : A} → (T b → P x) → (T (not b) → P y) → P (cond b x y)
 splitOn P true f g = f tt
 splitOn P false f g = g tt
+
+-- ## The room and the size limit
+
+pub room-short : (room m : ℕ) → room < m → roomFor room m ≡ no 4 room
+unfolding roomFor
+room-short room m h = rw (lt-leb m room h)
+
+pub within-limit : (limit n count : ℕ) → (0 < count → n + count ≤ limit) → withinLimit limit n count ≡ true
+within-limit limit n zero h = refl
+within-limit limit n (suc k) h = rw (ne-eqb (suc k) 0 (λ e. omega arith)) (le-leb (n + suc k) limit (h (omega arith)))
+
+pub over-limit : (limit n count : ℕ) → 0 < count → limit < n + count → withinLimit limit n count ≡ false
+over-limit limit n zero h g = absurd (omega arith)
+over-limit limit n (suc k) h g = rw (ne-eqb (suc k) 0 (λ e. omega arith)) (lt-leb (n + suc k) limit g)
+
+limit-passed : (limit n count : ℕ) → T (not (withinLimit limit n count)) → limit < n + count
+limit-passed limit n zero t = absurd t
+limit-passed limit n (suc k) t = let e = ne-eqb (suc k) 0 (λ e. omega arith) in nleb→lt _ _ (rw e at t)
 
 -- ## Length
 
@@ -86,11 +105,25 @@ module _ (limit room : ℕ) where
   unfolding writeAt roomFor writeLength
   write-cases P (put bytes) n f g h = splitOn P (leb (n + length bytes) room) (λ t. f (leb→le _ _ t)) (λ t. g (nleb→lt _ _ t))
   write-cases P (pad byte count) n f g h =
-      splitOn P (leb (n + count) limit) (λ t. splitOn P (leb (n + count) room) (λ t′. f (leb→le _ _ t′)) (λ t′. g (nleb→lt _ _ t′))) (λ t. h (nleb→lt _ _ t))
+      splitOn P (withinLimit limit n count) (λ t. splitOn P (leb (n + count) room) (λ t′. f (leb→le _ _ t′)) (λ t′. g (nleb→lt _ _ t′))) (λ t. h (limit-passed limit n count t))
 
   pub write-fits : (w : Write) (n : ℕ) → n + writeLength w ≤ room → n + writeLength w ≤ limit → writeAt limit room w n ≡ at (n + writeLength w)
   write-fits w n r l =
       write-cases (λ c. c ≡ at (n + writeLength w)) w n (λ fit. refl) (λ short. absurd (omega arith)) (λ far. absurd (omega arith))
+
+  -- ## Two puts are one
+
+  -- what has no room for its first part has none whole
+  put-after : (t : List ℕ) (m : ℕ) → one limit room (write (put t)) (roomFor room m) ≡ roomFor room (m + length t)
+  unfolding one writeAt roomFor
+  put-after t m =
+      splitOn (λ c. one limit room (write (put t)) c ≡ roomFor room (m + length t)) (leb m room)
+      (λ h. refl) (λ h. sym (room-short room (m + length t) (omega (arith, nleb→lt))))
+
+  pub join-counts : (a b : List ℕ) (es : List Event) (c : Count) → tally limit room (write (put a) ∷ write (put b) ∷ es) c ≡ tally limit room (write (put (a ++ b)) ∷ es) c
+  unfolding tally one writeAt
+  join-counts a b es (at n) = ap (tally limit room es) (put-after b (n + length a) ∙ ap (roomFor room) (rw length-append (omega arith)))
+  join-counts a b es (no number n) = refl
 
   -- ## A list that fits, and a list that came to its end
 

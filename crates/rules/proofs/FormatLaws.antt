@@ -61,7 +61,7 @@ never e = let z : _≡_ {A = ℕ} 0 1 = cc in absurd (omega arith)
 
 -- no check is 4
 module _ (Given : ℕ → Type 0) (every : (number : ℕ) → ByEvent number → number ≢ 4 → Given number) where
-  numbered-join : (xs ys : List Event) → Numbered Given xs → Numbered Given ys → Numbered Given (xs ++ ys)
+  pub numbered-join : (xs ys : List Event) → Numbered Given xs → Numbered Given ys → Numbered Given (xs ++ ys)
   unfolding Numbered
   numbered-join [] ys h k = k
   numbered-join (write w ∷ xs) ys h k = numbered-join xs ys h k
@@ -77,7 +77,7 @@ module _ (Given : ℕ → Type 0) (every : (number : ℕ) → ByEvent number →
   verdict-given true e = never e
   verdict-given false e = every 1 invalid-time (λ e. omega arith)
 
-  numbered-piece : (r : Record) (zone : List ℕ) (p : Piece) → Numbered Given (eventsOf r zone p)
+  pub numbered-piece : (r : Record) (zone : List ℕ) (p : Piece) → Numbered Given (eventsOf r zone p)
   unfolding eventsOf specEvents verdictOf Numbered
   numbered-piece r zone p =
       numbered-join (map write (leadOf (p .spec) p (r .year))) _ (numbered-writes (leadOf (p .spec) p (r .year)))

@@ -10,12 +10,14 @@ pub mod EachItem
 pub mod EarlyLaws
 pub mod EdgesHold
 pub mod EventLaws
+pub mod Faults
 pub mod FloorLaws
 pub mod FormatLaws
 pub mod HeldLaws
 pub mod HeldWays
 pub mod IsoWeeks
 pub mod Joining
+pub mod LetterLaws
 pub mod LimitLaws
 pub mod MatchLaws
 pub mod OneAnswer
@@ -23,6 +25,7 @@ pub mod OriginalWeek
 pub mod PendingEcho
 pub mod PendingFront
 pub mod PendingLaws
+pub mod Promised
 pub mod PutsShort
 pub mod ReachLaws
 pub mod RecordLaws
@@ -33,6 +36,14 @@ pub mod RunsLaws
 pub mod SettledLaws
 pub mod Shift
 pub mod Stamped
+pub mod StoredAnswers
+pub mod StoredCompiled
+pub mod StoredEdges
+pub mod StoredEntries
+pub mod StoredExact
+pub mod StoredGiven
+pub mod StoredLoading
+pub mod StoredPromises
 pub mod Tables
 pub mod TooWide
 pub mod UnreadFields

@@ -4,16 +4,16 @@ use mathlib.Core.Bool.{Bool, true, false, cond}
 use mathlib.Core.List.{List, [], _∷_}
 use Prim.Native.Nat.{ℕ, _+_, _≤_}
 use native.Mathlib.Omega.{arith}
-use borrow.Author.Tests.{le-leb, leb-true}
+use borrow.Author.Tests.{leb-true}
 use lib.Dec.{leb}
 use lib.ListN.{length}
 use Rattle.rules.specs.declared.Record.{Record}
 use Rattle.rules.specs.Record.{longestFormat, longestZone, longestBuffer}
-use Rattle.rules.specs.Event.{Write, put, pad, Event, write, check, writeLength, textOf, Count, at, no, roomFor, writeAt, one, tally, Outcome, outcomeOf, run}
+use Rattle.rules.specs.Event.{Write, put, pad, Event, write, check, writeLength, textOf, Count, at, no, roomFor, withinLimit, writeAt, one, tally, Outcome, outcomeOf, run}
 use Rattle.rules.specs.Writing.{eventsOf}
 use Rattle.rules.specs.Format.{items, read, ending, events, limitOf, formatEvents, formatted}
 use Rattle.rules.specs.Size.{Typed}
-use Rattle.rules.proofs.EventLaws.{write-cases, tally-no}
+use Rattle.rules.proofs.EventLaws.{within-limit, write-cases, tally-no}
 use Rattle.rules.proofs.RecordLaws.{by-test}
 use Rattle.rules.proofs.PutsShort.{longestPut, Short, ReachedShort, puts-short}
 
@@ -27,7 +27,7 @@ put-gives-no-3 limit room bytes n m =
 
 -- a write of either kind as a pad is: "tested whole against the size limit first (3), then against the room (4)"
 unfoldable pub testedWriteAt : ℕ → ℕ → Write → ℕ → Count
-testedWriteAt limit room w n = cond (leb (n + writeLength w) limit) (roomFor room (n + writeLength w)) (no 3 n)
+testedWriteAt limit room w n = cond (withinLimit limit n (writeLength w)) (roomFor room (n + writeLength w)) (no 3 n)
 
 unfoldable pub testedOne : ℕ → ℕ → Event → Count → Count
 testedOne limit room e (no number n) = no number n
@@ -64,7 +64,7 @@ module _ (limit room : ℕ) where
 
   same-write : room + longestPut ≤ limit → (w : Write) (n : ℕ) → Short w → n ≤ room → testedWriteAt limit room w n ≡ writeAt limit room w n
   unfolding testedWriteAt writeAt writeLength
-  same-write l (put bytes) n h k = rw (le-leb (n + length bytes) limit (omega arith))
+  same-write l (put bytes) n h k = rw (within-limit limit n (length bytes) (λ z. omega arith))
   same-write l (pad byte count) n h k = refl
 
   same-count : room + longestPut ≤ limit → (es : List Event) (n : ℕ) → ReachedShort es → n ≤ room → Same es (at n)

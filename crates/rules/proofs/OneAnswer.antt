@@ -7,7 +7,7 @@ use lib.Dec.{eqb}
 use lib.ListN.{length}
 use Rattle.rules.specs.declared.Record.{Record}
 use Rattle.rules.specs.declared.Refusal.{Refusal}
-use Rattle.rules.specs.declared.Refusal.the-variants.{InvalidTime, InvalidFormatString, FormattedStringTooLarge, WriteZero, InputTooLong, NoBuffer, OutOfRange, LengthMismatch}
+use Rattle.rules.specs.declared.Refusal.the-variants.{InvalidTime, InvalidFormatString, FormattedStringTooLarge, WriteZero, InputTooLong, NoBuffer, OutOfRange, LengthMismatch, BadStored}
 use Rattle.rules.specs.declared.Answer.{Answer}
 use Rattle.rules.specs.declared.Answer.the-variants.{Done, Refused}
 use Rattle.rules.specs.Refusal.{numberOf, refusalAt, ByEvent, invalid-time, invalid-format-string, formatted-string-too-large, write-zero, Report, numbered}
@@ -25,6 +25,7 @@ refusal-at InputTooLong = (refl, refl)
 refusal-at NoBuffer = (refl, refl)
 refusal-at OutOfRange = (refl, refl)
 refusal-at LengthMismatch = (refl, refl)
+refusal-at BadStored = (refl, refl)
 
 -- a number of the table
 abbrev pub OfTable : ℕ → Type 0

@@ -20,6 +20,9 @@ pub both : (a b : Bool) → (a && b) ≡ true → (a ≡ true) × (b ≡ true)
 both true b h = (refl, h)
 both false b h = (h, cc)
 
+pub together : {a b : Bool} → a ≡ true → b ≡ true → (a && b) ≡ true
+together p q = rw (p, q)
+
 pub true-of : (b : Bool) → T b → b ≡ true
 true-of true h = refl
 true-of false h = absurd h

@@ -122,7 +122,7 @@ turn-ok (InColons o w colons) b h =
 
 -- ## Each item
 
-abbrev ItemOk : Item → Type 0
+abbrev pub ItemOk : Item → Type 0
 ItemOk (literal b) = Unit {0}
 ItemOk (echo text) = Unit {0}
 ItemOk (directive p) = WidthOk (p .width)
@@ -154,7 +154,9 @@ unfolding ending
 end-ok between h = tt
 end-ok (inside r text) h = (by-test ItemOk (open? r) (λ t. tt) (λ f. tt), tt)
 
+pub items-ok : (format : List ℕ) → AllItems ItemOk (items format)
+items-ok format = all-read ItemOk (λ left state. StateOk state) (λ left state b. step-ok state b) end-ok between format tt
+
 -- "A width never starts with 0 and is never 0, since zeros are flags." Nor is it above 2,147,483,647
 pub widths-read : (format : List ℕ) (p : Piece) → List·Memᴰ (directive p) (items format) → WidthOk (p .width)
-widths-read format p m =
-    all-member ItemOk (items format) (all-read ItemOk (λ left state. StateOk state) (λ left state b. step-ok state b) end-ok between format tt) m
+widths-read format p m = all-member ItemOk (items format) (items-ok format) m

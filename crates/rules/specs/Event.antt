@@ -1,6 +1,6 @@
 -- Events (01, "Refusal table"): what a format does from left to right, the text that it writes, and the first event that fails.
 use mathlib.Core.Path.{_≡_}
-use mathlib.Core.Bool.{Bool, true, false, cond}
+use mathlib.Core.Bool.{Bool, true, false, cond, _||_}
 use mathlib.Core.List.{List, [], _∷_, _++_}
 use Prim.Native.Nat.{ℕ, _+_}
 use lib.Dec.{leb, eqb}
@@ -60,10 +60,14 @@ numberIn (no number n) = number
 unfoldable pub roomFor : ℕ → ℕ → Count
 roomFor room n = cond (leb n room) (at n) (no 4 room)
 
+-- no limit refuses a pad of no bytes
+abbrev pub withinLimit : ℕ → ℕ → ℕ → Bool
+withinLimit limit n count = eqb count 0 || leb (n + count) limit
+
 -- "A pad of n bytes is tested whole against the size limit first (3), then against the room (4)."
 unfoldable pub writeAt : ℕ → ℕ → Write → ℕ → Count
 writeAt limit room (put bytes) n = roomFor room (n + length bytes)
-writeAt limit room (pad byte count) n = cond (leb (n + count) limit) (roomFor room (n + count)) (no 3 n)
+writeAt limit room (pad byte count) n = cond (withinLimit limit n count) (roomFor room (n + count)) (no 3 n)
 
 unfoldable pub one : ℕ → ℕ → Event → Count → Count
 one limit room e (no number n) = no number n

@@ -11,6 +11,7 @@ pub mod Offset
 pub mod Reading
 pub mod Writing
 pub mod Format
+pub mod Stored
 pub mod Runs
 pub mod Size
 pub mod ZoneNames

@@ -3,7 +3,7 @@ use mathlib.Core.Bool.{cond}
 use Prim.Native.Nat.{ℕ}
 use lib.Dec.{eqb}
 use Rattle.rules.specs.declared.Refusal.{Refusal}
-use Rattle.rules.specs.declared.Refusal.the-variants.{InvalidTime, InvalidFormatString, FormattedStringTooLarge, WriteZero, InputTooLong, NoBuffer, OutOfRange, LengthMismatch}
+use Rattle.rules.specs.declared.Refusal.the-variants.{InvalidTime, InvalidFormatString, FormattedStringTooLarge, WriteZero, InputTooLong, NoBuffer, OutOfRange, LengthMismatch, BadStored}
 use Rattle.rules.specs.declared.Answer.{Answer}
 use Rattle.rules.specs.declared.Answer.the-variants.{Done, Refused}
 
@@ -16,6 +16,7 @@ numberOf InputTooLong = 5
 numberOf NoBuffer = 6
 numberOf OutOfRange = 7
 numberOf LengthMismatch = 10
+numberOf BadStored = 11
 
 -- the refusal with a number of the table. A number that is none of the table's, as only a state that no call has made can have, stands for 4
 unfoldable pub refusalAt : ℕ → Refusal
@@ -27,7 +28,8 @@ refusalAt n =
     (cond (eqb n 6) NoBuffer
     (cond (eqb n 7) OutOfRange
     (cond (eqb n 10) LengthMismatch
-    WriteZero))))))
+    (cond (eqb n 11) BadStored
+    WriteZero)))))))
 
 -- the refusals that an event of a format can give
 pub data ByEvent : ℕ → Type 0 where

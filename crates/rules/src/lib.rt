@@ -224,6 +224,7 @@ pub enum Refusal {
     NoBuffer,
     OutOfRange,
     LengthMismatch,
+    BadStored,
 }
 
 // A refusal's number in the table.
@@ -239,6 +240,7 @@ pub fn number_of(refusal: Refusal) -> u32
         Refusal::NoBuffer => 6,
         Refusal::OutOfRange => 7,
         Refusal::LengthMismatch => 10,
+        Refusal::BadStored => 11,
     }
 }
 
@@ -254,6 +256,7 @@ pub fn refusal_of(number: usize) -> Refusal
         6 => Refusal::NoBuffer,
         7 => Refusal::OutOfRange,
         10 => Refusal::LengthMismatch,
+        11 => Refusal::BadStored,
         _ => Refusal::WriteZero,
     }
 }

@@ -2,13 +2,12 @@
 use mathlib.Core.Path.{_≡_, refl, sym, ap, _∙_}
 use mathlib.Core.Bool.{Bool, false, true}
 use mathlib.Core.List.{List, _++_, append-assoc}
-use Prim.Native.Nat.{ℕ, _+_, _-_, _*_, _≤_, _<_}
+use Prim.Native.Nat.{ℕ, _+_, _-_, _≤_}
 use native.Mathlib.Omega.{arith}
-use lib.ListN.{length, take, drop, length-append, length-take, length-drop, take-append-drop}
+use lib.ListN.{length, take, drop, length-append, length-drop, take-append-drop}
 use lib.Seq.{take-at, drop-at, take-take, take-add, length-take-le}
 use Rattle.rules.specs.declared.Record.{Record}
 use Rattle.rules.specs.declared.Runs.{Runs}
-use Rattle.rules.specs.Record.{longestBuffer}
 use Rattle.rules.specs.Event.{Event, textOf, lengthOf, Count, at, reachOf, numberIn, tally}
 use Rattle.rules.specs.Writing.{eventsOf}
 use Rattle.rules.specs.Format.{between, after, settled, items, events, limitOf}
@@ -101,10 +100,6 @@ module _ (s : Runs) (zone : List ℕ) (time : Record) (store buffer bytes : List
       pub from-inside : from ≤ length store₁
       from-inside = omega (arith, from-within, end-within)
 
-      -- where a byte is read the total is at least 1
-      pub limit-holds : 0 < length (take from store₁) → longestBuffer ≤ s .total * 524288
-      limit-holds h = omega (arith, length-take from store₁, from-within, g .within)
-
       left-is : length pending ≡ end - from
       left-is = omega (arith, from-is, text-long, pending-fits text)
 
@@ -139,9 +134,6 @@ module _ (s : Runs) (zone : List ℕ) (time : Record) (store buffer bytes : List
 -- ## An end
 
 module _ (s : Runs) (zone : List ℕ) (time : Record) (store buffer : List ℕ) (fits : s .kept ≤ length store) (g : EndGood s (length zone) (length buffer)) where
-  pub end-limit-holds : 0 < length (take (s .kept) store) → longestBuffer ≤ s .total * 524288
-  end-limit-holds h = omega (arith, length-take (s .kept) store, g .all)
-
   pub end-read : (buffer′ : List ℕ) (place : ℕ) (r : Runs) →
       Ran (limitOf (s .total)) (length buffer) (events (eventsOf time zone) (items (take (s .kept) store))) buffer (s .written) buffer′ place →
       r ≡ cameTo (s .total) (s .total) 0 place true →

@@ -44,6 +44,7 @@ fn name_to(fd: i32, refusal: Refusal) {
         Refusal::NoBuffer => text_to(fd, b"NoBuffer"),
         Refusal::OutOfRange => text_to(fd, b"OutOfRange"),
         Refusal::LengthMismatch => text_to(fd, b"LengthMismatch"),
+        Refusal::BadStored => text_to(fd, b"BadStored"),
     }
 }
 

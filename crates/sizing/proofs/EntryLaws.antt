@@ -21,6 +21,7 @@ use Rattle.rules.specs.Writing.{eventsOf}
 use Rattle.rules.specs.Format.{items, events, fault, limitOf}
 use Rattle.rules.specs.Size.{Kept, AnyStamp, GoodStamp, Sizing}
 use Rattle.rules.proofs.EventLaws.{splitOn}
+use Rattle.rules.proofs.Faults.{fault-by-event}
 use Rattle.rules.proofs.OneAnswer.{event-number, number-known}
 use Rattle.text.specs.Ran.{Ran}
 use Rattle.text.proofs.OverlayLaws.{take-replicate}
@@ -28,7 +29,6 @@ use Rattle.text.proofs.RanLaws.{counted, same-events}
 use Rattle.text.proofs.EntryLaws.{from-start, ran-refused}
 use Rattle.longest.specs.Witness.{september, december, witness, longestIn, lengthAt, greater, tooLong, noBuffer, unless, refuses, needing, reportOf, sizeBy, sizeOf}
 use Rattle.longest.proofs.Fitting.{run-fits}
-use Rattle.longest.proofs.Faults.{fault-by-event}
 use Rattle.longest.proofs.Checks.{in-range-holds}
 use Rattle.longest.proofs.Members.{within-limit}
 use Rattle.longest.proofs.Witnesses.{witness-in-range}

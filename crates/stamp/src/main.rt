@@ -1,5 +1,5 @@
-// Prints the stamp that a format gives of one fixed time, or of the instant that is asked for, and the bytes that the format needs;
-// or where the format is refused and why.
+// Prints the stamp that a format gives of one fixed time, or of the instant that is asked for, and the bytes that the format needs; or its
+// stored form; or where the format is refused and why.
 mod arguments;
 mod echoes;
 mod instant;
@@ -8,6 +8,7 @@ mod number;
 mod refused;
 mod sample;
 mod show;
+mod stored;
 mod usage;
 mod watch;
 
@@ -15,7 +16,7 @@ use arguments::Asked;
 use libc::STDERR_FILENO;
 use rules::Refusal;
 
-// Only three whole words are options, so that a format may begin with two dashes.
+// Only four whole words are options, so that a format may begin with two dashes.
 fn run(word: &[u8]) {
     if check::same(word, b"--help") {
         usage::say_usage();
@@ -67,6 +68,21 @@ fn run_in_runs(words: usize) {
     run_at(&word[..count], 4, words, run_length);
 }
 
+// The format is the second word, and the last.
+fn run_stored(words: usize) {
+    if words != 3 {
+        usage::say_words();
+        return;
+    }
+    let mut word = io::large_buffer();
+    let count = os::arg(2, &mut word);
+    if os::errno() != 0 {
+        say_too_long();
+        return;
+    }
+    stored::show_stored(&word[..count]);
+}
+
 fn main() {
     let words = os::arg_count();
     if words < 2 {
@@ -81,6 +97,10 @@ fn main() {
     }
     if check::same(&word[..count], b"--runs") {
         run_in_runs(words);
+        return;
+    }
+    if check::same(&word[..count], b"--stored") {
+        run_stored(words);
         return;
     }
     if words > 2 {

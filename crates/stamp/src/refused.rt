@@ -61,14 +61,46 @@ fn say_place(refusal: Refusal, format: &[u8], zone: &[u8], record: Record, buffe
     say::error(b"\n");
 }
 
+fn say_too_long(format: &[u8]) {
+    say::error(b"the format has ");
+    say::error_number(format.len() as u64);
+    say::error(b" bytes, and 4096 are the most\n");
+}
+
 pub fn explain(refusal: Refusal, format: &[u8], zone: &[u8], record: Record, buffer: &mut [u8]) {
     say::refusal_to(STDERR_FILENO, refusal);
     say::error(b": ");
     if format.len() > 4096 {
-        say::error(b"the format has ");
-        say::error_number(format.len() as u64);
-        say::error(b" bytes, and 4096 are the most\n");
+        say_too_long(format);
         return;
     }
     say_place(refusal, format, zone, record, buffer);
+}
+
+// Where the last item starts.
+fn last_item(format: &[u8]) -> usize {
+    let mut last = 0;
+    let mut at = 0;
+    while at < format.len() {
+        last = at;
+        let item = item_at(format, at);
+        at = item.end;
+    }
+    last
+}
+
+// Of a format that is compiled, whatever the record: it ends inside a directive in its last item.
+pub fn explain_cut(refusal: Refusal, format: &[u8]) {
+    say::refusal_to(STDERR_FILENO, refusal);
+    say::error(b": ");
+    if format.len() > 4096 {
+        say_too_long(format);
+        return;
+    }
+    let start = last_item(format);
+    if start < format.len() {
+        say_item_to(STDERR_FILENO, format, start, format.len());
+        say_why(refusal, format);
+        say::error(b"\n");
+    }
 }

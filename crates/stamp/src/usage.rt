@@ -2,6 +2,7 @@
 use crate::instant::show_at;
 use crate::sample::show_sample;
 use crate::sample::stamp;
+use crate::stored::show_stored;
 use rules::Answer;
 
 pub fn say_version() {
@@ -17,10 +18,10 @@ fn say_line(format: &[u8]) {
 
 fn say_use() {
     say::text(
-        b"usage: stamp [--runs N] FORMAT [COUNT [OFFSET]]\n       stamp --help\n       stamp --version\n",
+        b"usage: stamp [--runs N] FORMAT [COUNT [OFFSET]]\n       stamp --stored FORMAT\n       stamp --help\n       stamp --version\n",
     );
     say_line(b"Prints %A %F %T.%N, day %j, zone %Z, %:z, as FORMAT says,\n");
-    say::text(b"and the bytes that FORMAT needs for any time. Every word but the three above is\n");
+    say::text(b"and the bytes that FORMAT needs for any time. Every word but the four above is\n");
     say::text(b"a format, also one that begins with two dashes, as --%d.\n");
 }
 
@@ -38,7 +39,14 @@ fn say_runs() {
     say::text(
         b"With --runs it takes FORMAT in runs of N bytes, 1 to 32, as a bus would bring it, and\n",
     );
-    say::text(b"says after each what the buffer holds.\n\n");
+    say::text(b"says after each what the buffer holds.\n");
+}
+
+fn say_stored() {
+    say::text(
+        b"With --stored it prints the stored form of FORMAT, in hexadecimal: a line for the literal\n",
+    );
+    say::text(b"bytes, one for the directives, and one for the steps, each after its count.\n\n");
 }
 
 fn say_examples() {
@@ -50,6 +58,8 @@ fn say_examples() {
     show_at(b"%F %T %:z", 1735574709, -18000, 0);
     say::text(b"$ stamp --runs 4 'on %A, %-d %B'\n");
     show_sample(b"on %A, %-d %B", 4);
+    say::text(b"$ stamp --stored '%F %T'\n");
+    show_stored(b"%F %T");
     say::text(b"\n");
 }
 
@@ -88,6 +98,7 @@ pub fn say_usage() {
     say_use();
     say_counts();
     say_runs();
+    say_stored();
     say_examples();
     say_dates();
     say_times();
@@ -98,7 +109,7 @@ pub fn say_usage() {
 // Where the words are not those of the first line of usage.
 pub fn say_words() {
     say::error(
-        b"stamp takes --runs N, FORMAT, COUNT and OFFSET: put quotes around a format that has blanks\n",
+        b"stamp takes --runs N, FORMAT, COUNT and OFFSET, or --stored and FORMAT: put quotes around a format that has blanks\n",
     );
     say::error(b"stamp --help says more\n");
 }

@@ -1,28 +1,19 @@
 -- What the entry answers, and the buffer afterwards, for each way through it.
-use mathlib.Core.Path.{_≡_, refl, sym, subst, _∙_}
+use mathlib.Core.Path.{_≡_, sym, subst, _∙_}
 use mathlib.Core.List.{List}
 use Prim.Native.Nat.{ℕ, _/_, _≤_, _<_}
 use lib.ListN.{length}
 use Rattle.rules.specs.declared.Refusal.{Refusal}
-use Rattle.rules.specs.declared.Refusal.the-variants.{InputTooLong}
-use Rattle.rules.specs.declared.Answer.{Answer}
 use Rattle.rules.specs.declared.Answer.the-variants.{Done, Refused}
 use Rattle.rules.specs.Record.{longestBuffer}
 use Rattle.rules.specs.Refusal.{numberOf, ByEvent, numbered}
-use Rattle.rules.specs.Event.{Event, at, Outcome, refused, run, reported, bufferAfter}
+use Rattle.rules.specs.Event.{Event, at, Outcome, run, reported}
 use Rattle.rules.proofs.FormatLaws.{Numbered, CountOk, tally-ok}
+use Rattle.rules.proofs.Promised.{Promised}
 use Rattle.text.specs.Ran.{refusedUnit}
 use Rattle.text.proofs.PlaceLaws.{count-no}
 use Rattle.text.proofs.EntryLaws.{ran-done, ran-refused, ran-length}
 use Rattle.walk.specs.Stamp.{Stamped}
-
--- an answer and a buffer are what an outcome asks
-abbrev pub Promised : Outcome → List ℕ → Answer → List ℕ → Type 0
-Promised outcome before answer after = (numbered answer ≡ reported outcome) × (after ≡ bufferAfter outcome before)
-
-pub declined : (before : List ℕ) {outcome : Outcome} → outcome ≡ refused 5 → Promised outcome before (Refused InputTooLong) before
-unfolding numbered numberOf reported bufferAfter
-declined before e = rw e (refl, refl)
 
 module _ {limit : ℕ} {es : List Event} {l b l′ b′ : List ℕ} {n : ℕ} (w : Stamped limit es l b l′ b′ n) where
   -- a refusal's number is one that an event gives

@@ -15,10 +15,10 @@ use text::is_refused;
 use text::refusal_at;
 use walk::stamp;
 
-const SCRATCH: usize = 192;
+pub const SCRATCH: usize = 192;
 
 // How much of the scratch is lent.
-fn part_of(room: usize) -> usize
+pub fn part_of(room: usize) -> usize
     ensures { λ r. ⌜ r ≡ min 192 room ⌝ }
 {
     if room < SCRATCH { room } else { SCRATCH }

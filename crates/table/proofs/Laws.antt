@@ -8,31 +8,27 @@ use borrow.Author.Tests.{ne-eqb}
 use Rattle.rules.specs.declared.Entry.{Entry}
 use Rattle.rules.specs.declared.Entry.the-variants.{Is, Missing}
 use Rattle.rules.specs.declared.Modifier.{Modifier}
-use Rattle.rules.specs.declared.Spec.{Spec}
 use Rattle.rules.specs.Reading.{Row, letters, member, modified, lookUp, possibleSpecs, specOf}
+use Rattle.rules.specs.Stored.{isKnown}
 use Rattle.rules.proofs.MatchLaws.{NoneOf, none-known}
 
-abbrev isEntry : Entry → Bool
-isEntry (Is s) = true
-isEntry Missing = false
-
-searched : (b : ℕ) (rows : List Row) → member b (letters rows) ≡ isEntry (lookUp b rows)
+searched : (b : ℕ) (rows : List Row) → member b (letters rows) ≡ isKnown (lookUp b rows)
 unfolding member lookUp
 searched b [] = refl
 searched b (r ∷ rows) = go (eqb b (r .letter)) (searched b rows)
   where
-    go : (t : Bool) → member b (letters rows) ≡ isEntry (lookUp b rows) → cond t true (member b (letters rows)) ≡ isEntry (cond t (Is (r .spec)) (lookUp b rows))
+    go : (t : Bool) → member b (letters rows) ≡ isKnown (lookUp b rows) → cond t true (member b (letters rows)) ≡ isKnown (cond t (Is (r .spec)) (lookUp b rows))
     go true rest = refl
     go false rest = rest
 
 -- a letter is possible exactly if the table has an entry for it
-possible-entry : (b : ℕ) → member b (letters possibleSpecs) ≡ isEntry (specOf b)
+pub possible-entry : (b : ℕ) → member b (letters possibleSpecs) ≡ isKnown (specOf b)
 possible-entry b = searched b possibleSpecs
 
 pub impossible : (b : ℕ) → member b (letters possibleSpecs) ≡ false → specOf b ≡ Missing
 impossible b h = go (specOf b) (sym (possible-entry b) ∙ h)
   where
-    go : (e : Entry) → isEntry e ≡ false → e ≡ Missing
+    go : (e : Entry) → isKnown e ≡ false → e ≡ Missing
     go (Is s) h = absurd (false≢true (sym h))
     go Missing h = refl
 

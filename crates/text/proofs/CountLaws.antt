@@ -4,11 +4,11 @@ use mathlib.Core.Bool.{true, false}
 use mathlib.Core.List.{List, [], _∷_, _++_}
 use Prim.Native.Nat.{ℕ, _+_, _≤_, _<_}
 use native.Mathlib.Omega.{arith}
-use borrow.Author.Tests.{le-leb, lt-leb}
-use lib.Dec.{leb, leb→le, nleb→lt}
-use lib.ListN.{length, replicate, length-append, length-replicate}
+use borrow.Author.Tests.{le-leb}
+use lib.Dec.{leb, leb→le}
+use lib.ListN.{length, replicate, length-replicate}
 use Rattle.rules.specs.Event.{put, pad, Event, write, check, Count, at, no, roomFor, writeAt, one, tally}
-use Rattle.rules.proofs.EventLaws.{splitOn, tally-no, stop-first}
+use Rattle.rules.proofs.EventLaws.{splitOn, room-short, within-limit, over-limit, tally-no, stop-first}
 use Rattle.text.specs.Ran.{countAt}
 use Rattle.text.proofs.PlaceLaws.{count-at, by-place}
 
@@ -16,39 +16,23 @@ room-fits : (room m : ℕ) → m ≤ room → roomFor room m ≡ at m
 unfolding roomFor
 room-fits room m h = rw (le-leb m room h)
 
-room-short : (room m : ℕ) → room < m → roomFor room m ≡ no 4 room
-unfolding roomFor
-room-short room m h = rw (lt-leb m room h)
-
 module _ (limit room : ℕ) where
-  -- what has no room for its first part has none whole
-  put-after : (t : List ℕ) (m : ℕ) → one limit room (write (put t)) (roomFor room m) ≡ roomFor room (m + length t)
-  unfolding one writeAt roomFor
-  put-after t m =
-      splitOn (λ c. one limit room (write (put t)) c ≡ roomFor room (m + length t)) (leb m room)
-      (λ h. refl) (λ h. sym (room-short room (m + length t) (omega (arith, nleb→lt))))
-
-  pub join-counts : (a b : List ℕ) (es : List Event) (n : ℕ) → tally limit room (write (put a) ∷ write (put b) ∷ es) (at n) ≡ tally limit room (write (put (a ++ b)) ∷ es) (at n)
-  unfolding tally one writeAt
-  join-counts a b es n =
-      ap (tally limit room es) (put-after b (n + length a) ∙ ap (roomFor room) (rw length-append (omega arith)))
-
-  pad-within : (c count n : ℕ) → n + count ≤ limit → one limit room (write (pad c count)) (at n) ≡ roomFor room (n + count)
+  pad-within : (c count n : ℕ) → (0 < count → n + count ≤ limit) → one limit room (write (pad c count)) (at n) ≡ roomFor room (n + count)
   unfolding one writeAt
-  pad-within c count n h = rw (le-leb (n + count) limit h)
+  pad-within c count n h = rw (within-limit limit n count h)
 
   -- a pad within the limit is a write of its bytes
-  pub pad-counts : (c count : ℕ) (es : List Event) (n : ℕ) → n + count ≤ limit → tally limit room (write (put (replicate count c)) ∷ es) (at n) ≡ tally limit room (write (pad c count) ∷ es) (at n)
+  pub pad-counts : (c count : ℕ) (es : List Event) (n : ℕ) → (0 < count → n + count ≤ limit) → tally limit room (write (put (replicate count c)) ∷ es) (at n) ≡ tally limit room (write (pad c count) ∷ es) (at n)
   unfolding tally one writeAt
   pad-counts c count es n h =
       ap (tally limit room es) (ap (λ (k : ℕ). roomFor room (n + k)) (length-replicate count c) ∙ sym (pad-within c count n h))
 
   -- the same behind a write, which ends within the room or is refused
-  pub pad-after-counts : (a : List ℕ) (c count : ℕ) (es : List Event) (n : ℕ) → room + count ≤ limit → tally limit room (write (put a) ∷ write (put (replicate count c)) ∷ es) (at n) ≡ tally limit room (write (put a) ∷ write (pad c count) ∷ es) (at n)
+  pub pad-after-counts : (a : List ℕ) (c count : ℕ) (es : List Event) (n : ℕ) → (0 < count → room + count ≤ limit) → tally limit room (write (put a) ∷ write (put (replicate count c)) ∷ es) (at n) ≡ tally limit room (write (put a) ∷ write (pad c count) ∷ es) (at n)
   unfolding tally one writeAt roomFor
   pad-after-counts a c count es n h =
       splitOn (λ x. tally limit room (write (put (replicate count c)) ∷ es) x ≡ tally limit room (write (pad c count) ∷ es) x) (leb (n + length a) room)
-      (λ k. pad-counts c count es (n + length a) (omega (arith, leb→le))) (λ k. refl)
+      (λ k. pad-counts c count es (n + length a) (λ some. omega (arith, leb→le, h some))) (λ k. refl)
 
   -- a check that holds counts nothing
   pub check-counts : (es fs : List Event) (k : ℕ) (c : Count) → tally limit room (es ++ fs) c ≡ tally limit room (es ++ (check true k ∷ fs)) c
@@ -69,9 +53,9 @@ module _ (limit room : ℕ) where
   unfolding tally one writeAt
   put-refused t n r h g e = e ∙ sym (ap (tally limit room (write (put t) ∷ [])) (count-at n h) ∙ room-short room (n + length t) g)
 
-  pub pad-refused : (c count n r : ℕ) → n ≤ 65536 → limit < n + count → countAt r ≡ no 3 n → countAt r ≡ tally limit room (write (pad c count) ∷ []) (countAt n)
+  pub pad-refused : (c count n r : ℕ) → n ≤ 65536 → 0 < count → limit < n + count → countAt r ≡ no 3 n → countAt r ≡ tally limit room (write (pad c count) ∷ []) (countAt n)
   unfolding tally one writeAt
-  pad-refused c count n r h g e = e ∙ sym (ap (tally limit room (write (pad c count) ∷ [])) (count-at n h) ∙ rw (lt-leb (n + count) limit g))
+  pad-refused c count n r h some g e = e ∙ sym (ap (tally limit room (write (pad c count) ∷ [])) (count-at n h) ∙ rw (over-limit limit n count some g))
 
   pub check-refused : (number n r : ℕ) → n ≤ 65536 → countAt r ≡ no number n → countAt r ≡ tally limit room (check false number ∷ []) (countAt n)
   check-refused number n r h e = e ∙ sym (ap (tally limit room (check false number ∷ [])) (count-at n h) ∙ stop-first limit room [] number n)

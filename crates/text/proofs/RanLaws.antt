@@ -8,14 +8,14 @@ use native.Mathlib.Decide.{decLt}
 use lib.ListN.{length, take, drop, replicate, length-take}
 use lib.Seq.{take-all, take-nil, take-append-le, take-append-add}
 use Rattle.rules.specs.Event.{put, pad, Event, write, check, bytesOf, textOf, lengthOf, at, writeAt, one, tally, reachOf}
-use Rattle.rules.proofs.EventLaws.{length-text, text-join, tally-join, tally-no, tally-done, tally-room, stop-first}
+use Rattle.rules.proofs.EventLaws.{length-text, text-join, tally-join, join-counts, tally-no, tally-done, tally-room, stop-first}
 use Rattle.rules.proofs.ReachLaws.{reach-most, reach-least, reach-within, no-room}
 use Rattle.text.specs.Overlay.{overlay}
 use Rattle.text.specs.Ran.{countAt, Ran}
 use Rattle.text.specs.Room.{Room}
 use Rattle.text.proofs.OverlayLaws.{overlay-nil, length-overlay, overlay-append, overlay-clipped, overlay-front-of, overlay-before, overlay-behind}
 use Rattle.text.proofs.PlaceLaws.{count-at, count-no, by-place, same-place, reach-at, reach-no, reach-past}
-use Rattle.text.proofs.CountLaws.{put-counted, join-counts, pad-counts, pad-after-counts, check-counts, refused-counts}
+use Rattle.text.proofs.CountLaws.{put-counted, pad-counts, pad-after-counts, check-counts, refused-counts}
 
 join-texts : (a b : List ℕ) (es : List Event) → textOf (write (put a) ∷ write (put b) ∷ es) ≡ textOf (write (put (a ++ b)) ∷ es)
 unfolding textOf bytesOf
@@ -154,31 +154,31 @@ module _ {limit room : ℕ} where
       }
 
   pub joined : {a b : List ℕ} {es : List Event} {l l′ : List ℕ} {n n′ : ℕ} → Ran limit room (write (put a) ∷ write (put b) ∷ es) l n l′ n′ → Ran limit room (write (put (a ++ b)) ∷ es) l n l′ n′
-  joined {a} {b} {es} {n = n} w = alike (λ h. join-counts limit room a b es n) (join-texts a b es) w
+  joined {a} {b} {es} {n = n} w = alike (λ h. join-counts limit room a b es (at n)) (join-texts a b es) w
 
   pub parted : {a b : List ℕ} {es : List Event} {l l′ : List ℕ} {n n′ : ℕ} → Ran limit room (write (put (a ++ b)) ∷ es) l n l′ n′ → Ran limit room (write (put a) ∷ write (put b) ∷ es) l n l′ n′
-  parted {a} {b} {es} {n = n} w = alike (λ h. sym (join-counts limit room a b es n)) (sym (join-texts a b es)) w
+  parted {a} {b} {es} {n = n} w = alike (λ h. sym (join-counts limit room a b es (at n))) (sym (join-texts a b es)) w
 
   -- ## Pads
 
-  pub as-pad : {c count : ℕ} {es : List Event} {l l′ : List ℕ} {n n′ : ℕ} → (n ≤ 65536 → n + count ≤ limit) → Ran limit room (write (put (replicate count c)) ∷ es) l n l′ n′ → Ran limit room (write (pad c count) ∷ es) l n l′ n′
+  pub as-pad : {c count : ℕ} {es : List Event} {l l′ : List ℕ} {n n′ : ℕ} → (n ≤ 65536 → 0 < count → n + count ≤ limit) → Ran limit room (write (put (replicate count c)) ∷ es) l n l′ n′ → Ran limit room (write (pad c count) ∷ es) l n l′ n′
   unfolding textOf bytesOf
   as-pad {c} {count} {es} {n = n} f w = alike (λ h. pad-counts limit room c count es n (f h)) refl w
 
-  pub pad-none : {c : ℕ} {t : List ℕ} {es : List Event} {l l′ : List ℕ} {n n′ : ℕ} → 65536 ≤ limit → Ran limit room (write (put t) ∷ es) l n l′ n′ → Ran limit room (write (pad c 0) ∷ write (put t) ∷ es) l n l′ n′
-  pad-none h w = as-pad (λ k. omega arith) (parted {a = []} w)
+  pub pad-none : {c : ℕ} {t : List ℕ} {es : List Event} {l l′ : List ℕ} {n n′ : ℕ} → Ran limit room (write (put t) ∷ es) l n l′ n′ → Ran limit room (write (pad c 0) ∷ write (put t) ∷ es) l n l′ n′
+  pad-none w = as-pad (λ k some. absurd (omega arith)) (parted {a = []} w)
 
   -- a pad of no bytes is that of any byte
   pub any-byte : {c d : ℕ} {es : List Event} {l l′ : List ℕ} {n n′ : ℕ} → Ran limit room (write (pad c 0) ∷ es) l n l′ n′ → Ran limit room (write (pad d 0) ∷ es) l n l′ n′
   unfolding tally one writeAt textOf bytesOf
   any-byte w = alike (λ h. refl) refl w
 
-  pub pad-after : {a : List ℕ} {c count : ℕ} {es : List Event} {l l′ : List ℕ} {n n′ : ℕ} → room + count ≤ limit → Ran limit room (write (put a) ∷ write (put (replicate count c)) ∷ es) l n l′ n′ → Ran limit room (write (put a) ∷ write (pad c count) ∷ es) l n l′ n′
+  pub pad-after : {a : List ℕ} {c count : ℕ} {es : List Event} {l l′ : List ℕ} {n n′ : ℕ} → (0 < count → room + count ≤ limit) → Ran limit room (write (put a) ∷ write (put (replicate count c)) ∷ es) l n l′ n′ → Ran limit room (write (put a) ∷ write (pad c count) ∷ es) l n l′ n′
   unfolding textOf bytesOf
   pad-after {a} {c} {count} {es} {n = n} h w = alike (λ k. pad-after-counts limit room a c count es n h) refl w
 
-  pub pad-none-after : {c : ℕ} {t : List ℕ} {es : List Event} {l l′ : List ℕ} {n n′ : ℕ} → room ≤ 65536 → 65536 ≤ limit → Ran limit room (write (put t) ∷ es) l n l′ n′ → Ran limit room (write (put t) ∷ write (pad c 0) ∷ es) l n l′ n′
-  pad-none-after {t = t} g h w = pad-after (omega arith) (parted {b = []} (said (sym (append-nil t)) w))
+  pub pad-none-after : {c : ℕ} {t : List ℕ} {es : List Event} {l l′ : List ℕ} {n n′ : ℕ} → Ran limit room (write (put t) ∷ es) l n l′ n′ → Ran limit room (write (put t) ∷ write (pad c 0) ∷ es) l n l′ n′
+  pad-none-after {t = t} w = pad-after (λ some. absurd (omega arith)) (parted {b = []} (said (sym (append-nil t)) w))
 
   -- ## Checks and refusals
 

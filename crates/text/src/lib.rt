@@ -256,7 +256,7 @@ pub fn pad(out: &mut [u8], at: usize, room: usize, limit: usize, byte: u8, count
     if LONGEST_BUFFER < at {
         return at;
     }
-    if fits(at, count, limit) {
+    if count == 0 || fits(at, count, limit) {
         return run_short(out, at, room, byte, count);
     }
     refused(3, at)
@@ -264,7 +264,7 @@ pub fn pad(out: &mut [u8], at: usize, room: usize, limit: usize, byte: u8, count
 
 // The pad of no bytes.
 pub fn pad_none(out: &mut [u8], at: usize, room: usize, limit: usize) -> usize
-    requires { ⌜ Room (now out) room × (longestBuffer ≤ limit) ⌝ }
+    requires { ⌜ Room (now out) room ⌝ }
     ensures { λ r. ⌜ ((byte : ℕ) → Ran limit room (event.write (event.pad byte 0) ∷ []) (now (out .entry)) at (now (out .exit)) r) ⌝ }
 {
     if at <= out.len() {

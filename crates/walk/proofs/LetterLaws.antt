@@ -1,23 +1,19 @@
--- A letter ends a directive: right after the percent sign it is a plain one; and the step of the walk that it is.
+-- A letter right after the percent sign is a plain directive; and the step of the walk that it is.
 use mathlib.Core.Path.{_≡_, refl, sym, ap, subst, _∙_}
-use mathlib.Core.Bool.{Bool, true, false, cond}
-use mathlib.Core.List.{List, [], _∷_, map}
+use mathlib.Core.List.{List}
 use Prim.Native.Nat.{ℕ, _+_, _<_}
 use native.Mathlib.Decide.{decLt}
 use native.Mathlib.Omega.{arith}
-use borrow.Author.Tests.{eqb-true}
-use lib.Dec.{eqb}
 use lib.ListN.{length, getD, List·getD-eq-default}
-use Rattle.rules.specs.declared.Options.{Options}
 use Rattle.rules.specs.declared.Record.{Record}
 use Rattle.rules.specs.declared.Spec.{Spec}
 use Rattle.rules.specs.declared.Entry.the-variants.{Is}
 use Rattle.rules.specs.declared.Reading.the-variants.{InFlags}
-use Rattle.rules.specs.declared.Turn.{Turn}
 use Rattle.rules.specs.declared.Turn.the-variants.{Found}
 use Rattle.rules.specs.declared.Width.the-variants.{Unset}
-use Rattle.rules.specs.Reading.{outset, onFlag, Row, possibleSpecs, lookUp, specOf, pieceOf, onLetter, turn}
+use Rattle.rules.specs.Reading.{outset, possibleSpecs, lookUp, specOf}
 use Rattle.rules.specs.Writing.{specEvents, eventsOf}
+use Rattle.rules.proofs.LetterLaws.{letter-ends}
 use Rattle.text.specs.Ran.{Ran}
 use Rattle.printing.specs.Plain.{plainPiece}
 use Rattle.reading.proofs.Laws.{by-turn}
@@ -26,37 +22,6 @@ use Rattle.letters.specs.Letter.{RanLetter}
 use Rattle.walk.specs.declared.Step.{Step}
 use Rattle.walk.specs.Steps.{Stepped}
 use Rattle.walk.proofs.WalkLaws.{step-directive}
-
-abbrev turns : Options → List Row → List Turn
-turns o rows = map (λ (r : Row). turn (InFlags o) (r .letter)) rows
-
-abbrev pieces : Options → List Row → List Turn
-pieces o rows = map (λ (r : Row). Found (pieceOf o Unset false (r .spec))) rows
-
--- no letter of the table is a flag, a digit, a colon, or `E` or `O`
-letters-end : (o : Options) → turns o possibleSpecs ≡ pieces o possibleSpecs
-unfolding possibleSpecs turn onFlag onLetter lookUp
-letters-end o = refl
-
--- what a letter of some rows finds
-by-rows : (o : Options) (rows : List Row) → turns o rows ≡ pieces o rows → (b : ℕ) (s : Spec) → lookUp b rows ≡ Is s → turn (InFlags o) b ≡ Found (pieceOf o Unset false s)
-unfolding lookUp
-by-rows o [] e b s f = let z : _≡_ {A = ℕ} 0 1 = cc in absurd (omega arith)
-by-rows o (r ∷ rs) e b s f = go (λ rest. by-rows o rs rest b s) (eqb b (r .letter)) refl f
-  where
-    go : (turns o rs ≡ pieces o rs → lookUp b rs ≡ Is s → turn (InFlags o) b ≡ Found (pieceOf o Unset false s)) →
-        (t : Bool) → eqb b (r .letter) ≡ t → cond t (Is (r .spec)) (lookUp b rs) ≡ Is s → turn (InFlags o) b ≡ Found (pieceOf o Unset false s)
-    go later true q f =
-        let here : b ≡ r .letter = eqb-true b (r .letter) q in
-        let found : r .spec ≡ s = cc in
-        let first : turn (InFlags o) (r .letter) ≡ Found (pieceOf o Unset false (r .spec)) = cc in
-        ap (turn (InFlags o)) here ∙ first ∙ ap (λ (x : Spec). Found (pieceOf o Unset false x)) found
-    go later false q f = let rest : turns o rs ≡ pieces o rs = cc in later rest f
-
-pub letter-ends : (o : Options) (b : ℕ) (s : Spec) → specOf b ≡ Is s → turn (InFlags o) b ≡ Found (pieceOf o Unset false s)
-letter-ends o = by-rows o possibleSpecs (letters-end o)
-
--- ## The letter that was read
 
 -- past the end every byte is read as 0, which is none
 pub byte-there : (format : List ℕ) (i : ℕ) → (getD format i 0 ≡ 0 → ⊥) → i < length format
@@ -74,7 +39,7 @@ module _ {limit room : ℕ} {r : Record} {zone format : List ℕ} {i : ℕ} {l l
       let h = letter-there format (i + 1) spec f in
       let next : s .next ≡ i + 1 + 1 = omega arith in
       step-directive s (plainPiece spec)
-      (rw next (items-at format i .percent (omega arith) p _ (sym (by-turn format (i + 1) (InFlags outset) h (Found (plainPiece spec)) (sym (letter-ends outset _ spec f))))))
+      (rw next (items-at format i .percent (omega arith) p _ (sym (by-turn format (i + 1) (InFlags outset) h (Found (plainPiece spec)) (sym (letter-ends outset Unset tt _ spec f))))))
       w
 
 module _ {limit room : ℕ} {r : Record} {zone format : List ℕ} {i b : ℕ} {l l′ : List ℕ} {n n′ : ℕ} where

@@ -1,3 +1,4 @@
+pub mod FrontLaws
 pub mod LetterLaws
 pub mod LiteralLaws
 pub mod MarkLaws

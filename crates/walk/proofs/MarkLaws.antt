@@ -17,6 +17,7 @@ use Rattle.rules.specs.Decimal.{decimalText}
 use Rattle.rules.specs.Event.{put, write}
 use Rattle.rules.specs.Reading.{outset, onFlag, specOf, onLetter, onColons, turn}
 use Rattle.rules.specs.Writing.{specEvents, eventsOf}
+use Rattle.rules.proofs.LetterLaws.{letter-ends}
 use Rattle.text.specs.Ran.{Ran}
 use Rattle.printing.specs.Plain.{plainPiece}
 use Rattle.reading.proofs.Laws.{by-turn}
@@ -24,7 +25,7 @@ use Rattle.reading.proofs.Positions.{items-at}
 use Rattle.letters.specs.Short.{leftFlag, leftPiece, Short}
 use Rattle.walk.specs.declared.Step.{Step}
 use Rattle.walk.specs.Steps.{Stepped}
-use Rattle.walk.proofs.LetterLaws.{letter-ends, byte-there, letter-there}
+use Rattle.walk.proofs.LetterLaws.{byte-there, letter-there}
 use Rattle.walk.proofs.WalkLaws.{step-directive}
 
 -- ## The bytes
@@ -59,7 +60,7 @@ module _ {limit room : ℕ} {r : Record} {zone format : List ℕ} {i : ℕ} {l l
   unfolding eventsOf
   step-short f g h k e w =
       let entry = ap specOf (sym h) ∙ k .entry in
-      by-two (InFlags leftFlag) (leftPiece (k .spec)) (letter-there format (i + 2) (k .spec) entry) (left-mark (sym f ∙ g)) (sym (letter-ends leftFlag _ (k .spec) entry)) e (k .runs zone w)
+      by-two (InFlags leftFlag) (leftPiece (k .spec)) (letter-there format (i + 2) (k .spec) entry) (left-mark (sym f ∙ g)) (sym (letter-ends leftFlag Unset tt _ (k .spec) entry)) e (k .runs zone w)
 
   -- a colon and `z`
   pub step-colon : {a b : ℕ} → a ≡ getD format (i + 1) 0 → a ≡ 58 → b ≡ getD format (i + 2) 0 → b ≡ 122 → s .next ≡ i + 3 → Ran limit room (specEvents (offset TimeZoneOffsetHourMinuteColon) (plainPiece (offset TimeZoneOffsetHourMinuteColon)) r zone) l n l′ (s .at) → Stepped limit room r zone format i l n l′ s

@@ -1,24 +1,22 @@
 -- A stamp by way of a scratch: what stands in the scratch grows item by item; at the end, or where an item doesn't end within it, the buffer gets the text.
 use mathlib.Core.Path.{_≡_, refl, sym, ap, _∙_}
-use mathlib.Core.List.{List, [], _∷_, _++_}
+use mathlib.Core.List.{List, [], _++_}
 use Prim.Native.Nat.{ℕ, _+_, _-_, _≤_, _<_}
 use native.Mathlib.Omega.{arith}
-use lib.ListN.{length, take, drop, length-take, length-drop, take-append-drop}
+use lib.ListN.{length, take, drop, length-take, length-drop}
 use Rattle.rules.specs.declared.Record.{Record}
-use Rattle.rules.specs.Event.{Event, textOf, at, tally}
+use Rattle.rules.specs.Event.{Event}
 use Rattle.rules.specs.Writing.{eventsOf}
 use Rattle.rules.specs.Format.{Item, between, read, items, events, limitOf}
-use Rattle.rules.proofs.EventLaws.{tally-join}
 use Rattle.rules.proofs.Resume.{events-join}
-use Rattle.text.specs.Ran.{countAt, Ran}
+use Rattle.text.specs.Ran.{Ran}
 use Rattle.text.specs.Room.{Room}
-use Rattle.text.proofs.PlaceLaws.{count-at}
-use Rattle.text.proofs.RanLaws.{_then_, same-events, tallied, inside, kept, placed}
-use Rattle.text.proofs.EntryLaws.{same-end, from-start, untouched, stands, written, fronted}
+use Rattle.text.proofs.RanLaws.{same-events, kept, placed}
 use Rattle.reading.proofs.Positions.{Part}
 use Rattle.walk.specs.declared.Step.{Step}
 use Rattle.walk.specs.Steps.{Stepped}
 use Rattle.walk.specs.Stamp.{Copied, Begun, Lengths, Stamped}
+use Rattle.walk.proofs.FrontLaws.{stamped, stamped-from, front-none, same-front, front-in, front-on, front-still, front-refused, front-written}
 use Rattle.walk.proofs.LiteralLaws.{copied-kept}
 use Rattle.walk.proofs.WalkLaws.{literals-ran, part-of, found-on, found-all}
 
@@ -29,44 +27,21 @@ eventsIn r zone format = events (eventsOf r zone) (items format)
 abbrev eventsFrom : Record → List ℕ → List ℕ → ℕ → List Event
 eventsFrom r zone format i = events (eventsOf r zone) (read between (drop i format))
 
--- ## The answer
-
-module _ {limit : ℕ} {es : List Event} {l b l′ : List ℕ} {n : ℕ} where
-  -- the buffer was written
-  stamped : {b′ : List ℕ} → Ran limit (length b) es b 0 b′ n → n ≤ 65536 → length l′ ≡ length l → Stamped limit es l b l′ b′ n
-  stamped w h k =
-      record {
-        count = from-start w;
-        buffer = written w h (inside w (omega arith) h);
-        scratch = k;
-      }
-
-  -- the buffer was never lent
-  stamped-not : countAt n ≡ tally limit (length b) es (at 0) → 65536 < n → length l′ ≡ length l → Stamped limit es l b l′ b n
-  stamped-not e h k = record { count = e; buffer = untouched limit (length b) es n e b h; scratch = k }
+-- ## What stands in the scratch
 
 module _ {limit room : ℕ} {r : Record} {zone format : List ℕ} where
-  -- ## What stands in the scratch
-
   begun-none : {l : List ℕ} → Begun limit room r zone format 0 l 0
-  unfolding events tally textOf
-  begun-none = record { found = []; rest = refl; within = omega arith; count = refl; inside = omega arith; text = refl }
+  unfolding events
+  begun-none = record { found = []; rest = refl; within = omega arith; front = front-none }
 
   module _ {i n : ℕ} {l : List ℕ} (w : Begun limit room r zone format i l n) where
-    begun-in : (b : List ℕ) {b′ : List ℕ} → n ≤ 65536 → n ≤ length b → b′ ≡ take n l ++ drop n b → Ran limit room (events (eventsOf r zone) (w .found)) b 0 b′ n
-    begun-in b h k q = fronted n l b (w .count) h (w .text) k q
-
     begun-on : (is : List Item) {l′ : List ℕ} {n′ j : ℕ} → Part format i is j → Ran limit room (events (eventsOf r zone) is) l n l′ n′ → n′ ≤ length l → length l ≤ 65536 → Begun limit room r zone format j l′ n′
     begun-on is p v h g =
-        let at-first = begun-in l (omega (arith, w .inside)) (w .inside) (sym (take-append-drop n l)) in
-        let both = same-events (sym (events-join (eventsOf r zone) (w .found) is)) (at-first then v) in
         record {
           found = w .found ++ is;
           rest = found-on (w .found) (w .rest) p;
           within = p .within;
-          count = tallied both (omega arith);
-          inside = omega (arith, kept v);
-          text = stands both (omega arith) h;
+          front = same-front (sym (events-join (eventsOf r zone) (w .found) is)) (front-on (w .front) v h g);
         }
 
     begun-item : {l′ : List ℕ} (s : Step) → Stepped limit room r zone format i l n l′ s → s .at ≤ length l → length l ≤ 65536 → Begun limit room r zone format (s .next) l′ (s .at)
@@ -79,50 +54,27 @@ module _ {limit room : ℕ} {r : Record} {zone format : List ℕ} where
         let ran = placed (v .text) (ap (λ (k : ℕ). n + k) (sym long)) (v .inside) g in
         begun-on _ (record { items = v .literals; onward = more; within = v .within }) (literals-ran r zone format i e more (v .within) ran) (v .inside) (omega (arith, g .within, g .small))
 
-    -- an item that didn't end within the scratch left alone what stands before it
     begun-still : {l′ : List ℕ} → take n l′ ≡ take n l → length l′ ≡ length l → Begun limit room r zone format i l′ n
-    begun-still e k = record { found = w .found; rest = w .rest; within = w .within; count = w .count; inside = omega (arith, w .inside); text = e ∙ w .text }
-
-    -- ## Where it goes from there
+    begun-still e k = record { found = w .found; rest = w .rest; within = w .within; front = front-still (w .front) e k }
 
     -- nothing is left: the front is the text
     begun-end : (b : List ℕ) {b′ : List ℕ} → length format ≤ i → n ≤ 65536 → n ≤ length b → b′ ≡ take n l ++ drop n b → Ran limit room (eventsIn r zone format) b 0 b′ n
-    begun-end b h g k q = same-events (ap (events (eventsOf r zone)) (found-all (w .found) format i (w .rest) (w .within) h)) (begun-in b g k q)
+    begun-end b h g k q = same-events (ap (events (eventsOf r zone)) (found-all (w .found) format i (w .rest) (w .within) h)) (front-in (w .front) b g k q)
 
     found-and-left : events (eventsOf r zone) (w .found) ++ eventsFrom r zone format i ≡ eventsIn r zone format
     found-and-left = sym (ap (events (eventsOf r zone)) (w .rest) ∙ events-join (eventsOf r zone) (w .found) (read between (drop i format)))
 
-    -- the rest is counted in any slice
-    begun-counts : {x x′ : List ℕ} {n′ : ℕ} → n ≤ 65536 → Ran limit room (eventsFrom r zone format i) x n x′ n′ → countAt n′ ≡ tally limit room (eventsIn r zone format) (at 0)
-    begun-counts h v =
-        v .count
-        ∙ ap (tally limit room (eventsFrom r zone format i)) (count-at n h ∙ sym (w .count))
-        ∙ sym (tally-join limit room (events (eventsOf r zone) (w .found)) _ (at 0))
-        ∙ ap (λ (es : List Event). tally limit room es (at 0)) found-and-left
-
-    -- and written to a buffer, behind the front
-    begun-goes-on : (b : List ℕ) {b₁ b′ : List ℕ} {n′ : ℕ} → n ≤ 65536 → n ≤ length b → b₁ ≡ take n l ++ drop n b → Ran limit room (eventsFrom r zone format i) b₁ n b′ n′ → Ran limit room (eventsIn r zone format) b 0 b′ n′
-    begun-goes-on b h k q v = same-events found-and-left (begun-in b h k q then v)
-
 -- ## The rest
 
--- no byte of the scratch was lent
-none-lent : {limit room : ℕ} {es : List Event} {x : List ℕ} {n m : ℕ} (l : List ℕ) → Ran limit room es [] n x m → x ++ l ≡ l
-none-lent {x = []} l v = refl
-none-lent {x = y ∷ x} l v = absurd (omega (arith, kept v))
-
 module _ {limit : ℕ} {r : Record} {zone format : List ℕ} {i n m : ℕ} {l b x : List ℕ} (s : Lengths format l b) (w : Begun limit (length b) r zone format i l n) (v : Ran limit (length b) (eventsFrom r zone format i) [] n x m) where
-  small : n ≤ 65536
-  small = omega (arith, w .inside, s .scratch-fits, s .buffer-fits)
+  lent : Room l (length b)
+  lent = record { within = s .scratch-fits; small = s .buffer-fits }
 
   pub rest-refused : 65536 < m → Stamped limit (eventsIn r zone format) l b (x ++ l) b m
-  rest-refused h = stamped-not (begun-counts w small v) h (ap length (none-lent l v))
+  rest-refused h = rw (found-and-left w) at (front-refused {b = b} lent (w .front) v h)
 
-  -- the second run comes to the place that was counted
   pub rest-written : {b₁ b′ : List ℕ} {m′ : ℕ} → m ≤ 65536 → b₁ ≡ take n (x ++ l) ++ drop n b → Ran limit (length b) (eventsFrom r zone format i) b₁ n b′ m′ → Stamped limit (eventsIn r zone format) l b (x ++ l) b′ m′
-  rest-written h q u =
-      let back = none-lent l v in
-      stamped (begun-goes-on w b small (omega (arith, w .inside, s .scratch-fits)) (q ∙ ap (λ (t : List ℕ). take n t ++ drop n b) back) u) (omega (arith, same-end u v)) (ap length back)
+  rest-written h q u = rw (found-and-left w) at (front-written {b = b} lent (w .front) v h q u)
 
 -- ## The loop
 
@@ -165,16 +117,14 @@ module _ {limit : ℕ} {r : Record} {zone format l₀ b₀ : List ℕ} {i n : �
 
   -- what it answers is the answer from the start
   pub handed-back : {es : List Event} {l′ l″ b′ : List ℕ} {m limit′ : ℕ} → length l′ ≡ length l → Stamped limit′ es l′ b l″ b′ m → Stamped limit′ es l₀ b₀ l″ b′ m
-  handed-back {es} {l″ = l″} {b′ = b′} {m = m} {limit′ = limit′} k v =
-      let answer : Stamped limit′ es l₀ b l″ b′ m = record { count = v .count; buffer = v .buffer; scratch = v .scratch ∙ k ∙ w .scratch } in
-      rw (w .buffer) at answer
+  handed-back k v = stamped-from (k ∙ w .scratch) (w .buffer) v
 
   -- all items ended within the scratch: its front is copied
   pub stamping-copies : (n ≤ length b) × (n ≤ length l)
-  stamping-copies = (omega (arith, w .begun .inside, stamping-room .within, ap length (w .buffer)), w .begun .inside)
+  stamping-copies = (omega (arith, w .begun .front .inside, stamping-room .within, ap length (w .buffer)), w .begun .front .inside)
 
   pub stamping-end : {b′ : List ℕ} → length format ≤ i → limit ≡ limitOf (length format) → b′ ≡ take n l ++ drop n b → Stamped (limitOf (length format)) (eventsIn r zone format) l₀ b₀ l b′ n
   stamping-end h q e =
-      let inside-buffer : n ≤ length b₀ = omega (arith, w .begun .inside, stamping-room .within) in
+      let inside-buffer : n ≤ length b₀ = omega (arith, w .begun .front .inside, stamping-room .within) in
       let small-place : n ≤ 65536 = omega (arith, s .buffer-fits) in
       rw (← q) (stamped (begun-end (w .begun) b₀ h small-place inside-buffer (e ∙ ap (λ (x : List ℕ). take n l ++ drop n x) (w .buffer))) small-place (w .scratch))

@@ -11,10 +11,9 @@ use Rattle.rules.specs.declared.Piece.{Piece}
 use Rattle.rules.specs.Event.{put, Event, write, check, textOf, bytesOf, Count, at, no, one, tally}
 use Rattle.rules.specs.Writing.{eventsOf}
 use Rattle.rules.specs.Format.{Item, literal, echo, directive, cut, between, read, ending, items, itemEvents, events}
-use Rattle.rules.proofs.EventLaws.{tally-no}
+use Rattle.rules.proofs.EventLaws.{join-counts, tally-no}
 use Rattle.rules.proofs.Resume.{events-join}
 use Rattle.text.specs.Ran.{Ran}
-use Rattle.text.proofs.CountLaws.{join-counts}
 use Rattle.text.proofs.RanLaws.{_then_, nothing, same-events, alike}
 use Rattle.reading.proofs.Positions.{Part, Last}
 use Rattle.walk.specs.declared.Step.{Step}
@@ -32,7 +31,7 @@ module _ (eventsFor : Piece → List Event) where
   unfolding events itemEvents one tally
   literals-count limit room b [] n = refl
   literals-count limit room b (c ∷ t) n =
-      sym (join-counts limit room (b ∷ []) (c ∷ t) [] n) ∙ go (λ m. literals-count limit room c t m) (one limit room (write (put (b ∷ []))) (at n))
+      sym (join-counts limit room (b ∷ []) (c ∷ t) [] (at n)) ∙ go (λ m. literals-count limit room c t m) (one limit room (write (put (b ∷ []))) (at n))
     where
       go : ((m : ℕ) → tally limit room (write (put (c ∷ t)) ∷ []) (at m) ≡ tally limit room (events eventsFor (map literal (c ∷ t))) (at m)) →
           (x : Count) → tally limit room (write (put (c ∷ t)) ∷ []) x ≡ tally limit room (events eventsFor (map literal (c ∷ t))) x

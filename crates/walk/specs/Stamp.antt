@@ -19,14 +19,18 @@ pub record Copied (format : List ℕ) (i : ℕ) (l : List ℕ) (n : ℕ) (l′ :
   pub inside : n + (e - i) ≤ length l
   pub text : l′ ≡ overlay n (take (e - i) (drop i format)) l
 
--- the items before position i of the format came to place n, and their text stands in front of the list l
+-- the events came to place n, and their text stands in front of the list l
+pub record Front (limit room : ℕ) (es : List Event) (l : List ℕ) (n : ℕ) : Type 0 where
+  pub count : tally limit room es (at 0) ≡ at n
+  pub inside : n ≤ length l
+  pub text : take n l ≡ textOf es
+
+-- the events of the items before position i of the format did
 pub record Begun (limit room : ℕ) (r : Record) (zone format : List ℕ) (i : ℕ) (l : List ℕ) (n : ℕ) : Type 0 where
   pub found : List Item
   pub rest : items format ≡ found ++ read between (drop i format)
   pub within : i ≤ length format
-  pub count : tally limit room (events (eventsOf r zone) found) (at 0) ≡ at n
-  pub inside : n ≤ length l
-  pub text : take n l ≡ textOf (events (eventsOf r zone) found)
+  pub front : Front limit room (events (eventsOf r zone) found) l n
 
 -- the lengths of what is lent
 pub record Lengths (format scratch buffer : List ℕ) : Type 0 where

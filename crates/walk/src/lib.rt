@@ -2,7 +2,7 @@
 ghost use mathlib.Core.Path.{_≡_};
 ghost use Prim.Native.Nat.{_≤_, _<_};
 ghost use lib.ListN.{length, getD, drop};
-ghost use Rattle.rules.specs.Record.{longestFormat, longestBuffer};
+ghost use Rattle.rules.specs.Record.{longestFormat};
 ghost use Rattle.rules.specs.Writing.{eventsOf};
 ghost use Rattle.rules.specs.Format.{between, read, items, events, limitOf};
 ghost use Rattle.text.specs.Ran.{Ran};
@@ -42,7 +42,7 @@ fn parsed_item(
     room: usize,
     limit: usize,
 ) -> Step
-    requires { ⌜ Room (now out) room × (longestBuffer ≤ limit) × (i < length (now format)) × (getD (now format) i 0 ≡ 37) ⌝ }
+    requires { ⌜ Room (now out) room × (i < length (now format)) × (getD (now format) i 0 ≡ 37) ⌝ }
     ensures { λ r. ⌜ Stepped limit room «record» (now (zone .entry)) (now (format .entry)) i (now (out .entry)) at (now (out .exit)) r ⌝ }
 {
     let parsed = parsed_at(format, i + 1);
@@ -85,7 +85,7 @@ fn marked_item(
     room: usize,
     limit: usize,
 ) -> Step
-    requires { ⌜ Room (now out) room × (longestBuffer ≤ limit) × (i < length (now format)) × (getD (now format) i 0 ≡ 37) ⌝ }
+    requires { ⌜ Room (now out) room × (i < length (now format)) × (getD (now format) i 0 ≡ 37) ⌝ }
     ensures { λ r. ⌜ Stepped limit room «record» (now (zone .entry)) (now (format .entry)) i (now (out .entry)) at (now (out .exit)) r ⌝ }
 {
     let mark = byte_at(format, i + 1);
@@ -121,7 +121,7 @@ pub fn run_from(
     room: usize,
     limit: usize,
 ) -> usize
-    requires { ⌜ Room (now out) room × (from ≤ length (now format)) × (from < length (now format) → longestBuffer ≤ limit) ⌝ }
+    requires { ⌜ Room (now out) room × (from ≤ length (now format)) ⌝ }
     ensures { λ r. ⌜ Ran limit room (events (eventsOf «record» (now (zone .entry))) (read between (drop from (now (format .entry))))) (now (out .entry)) start (now (out .exit)) r ⌝ }
 {
     let mut at = start;

@@ -1,12 +1,24 @@
-/* A call on its way: this, then the bytes of format (or a run of it), zone name, buffer and store. Back come the result,
-   the buffer and the store. Each entry sets what it takes; all else is 0. */
+/* A call on its way: this, then the bytes of format (or a run of it), zone name, buffer (or the place of a stored form that
+   is written) and store (or a stored form that is read). Back come the result, the buffer and the store. Each entry sets what
+   it takes; all else is 0. */
 
 #ifndef CALL_H
 #define CALL_H
 
 #include "groatsaddle.h"
 
-enum { FORMAT, SIZE, RECORD_FROM_COUNT, COUNT_FROM_RECORD, RUNS_START, RUNS_RUN, RUNS_END, RUNS_ANSWER };
+enum {
+    FORMAT,
+    SIZE,
+    RECORD_FROM_COUNT,
+    COUNT_FROM_RECORD,
+    RUNS_START,
+    RUNS_RUN,
+    RUNS_END,
+    RUNS_ANSWER,
+    COMPILE,
+    FORMAT_STORED
+};
 
 typedef struct {
     uint64_t format_len;
@@ -24,7 +36,7 @@ typedef struct {
     int32_t utc_offset;
     uint32_t nanoseconds;
     uint8_t is_utc;
-    uint64_t total;
+    uint64_t total; /* bytes of a whole format that is not lent */
     gs_runs runs;
 } call;
 
@@ -38,6 +50,6 @@ typedef struct {
 } result;
 
 /* More than the longest inputs, so that longer ones can be tried. */
-#define MOST 131072
+#define MOST 393216
 
 #endif

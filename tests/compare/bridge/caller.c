@@ -145,9 +145,9 @@ gs_counted gs_count_from_record(gs_record record) {
     return result_of(it, NULL, NULL, one_way(NULL), one_way(NULL)).counted;
 }
 
-/* A call of a format in runs. */
-static call a_runs_call(uint8_t entry, const uint8_t *zone, size_t zone_len, const uint8_t *store, size_t store_len,
-                        const uint8_t *buffer, size_t buffer_len) {
+/* A call with a store or a stored form. */
+static call a_store_call(uint8_t entry, const uint8_t *zone, size_t zone_len, const uint8_t *store, size_t store_len,
+                         const uint8_t *buffer, size_t buffer_len) {
     call it = a_call(entry);
     it.zone_len = zone_len;
     it.store_len = store_len;
@@ -160,14 +160,14 @@ static call a_runs_call(uint8_t entry, const uint8_t *zone, size_t zone_len, con
 
 gs_runs gs_runs_start(size_t total, const uint8_t *zone, size_t zone_len, const uint8_t *store, size_t store_len,
                       const uint8_t *buffer, size_t buffer_len) {
-    call it = a_runs_call(RUNS_START, zone, zone_len, store, store_len, buffer, buffer_len);
+    call it = a_store_call(RUNS_START, zone, zone_len, store, store_len, buffer, buffer_len);
     it.total = total;
     return result_of(it, NULL, zone, one_way(buffer), one_way(store)).runs;
 }
 
 gs_runs gs_runs_run(gs_runs runs, const uint8_t *bytes, size_t bytes_len, const uint8_t *zone, size_t zone_len,
                     gs_record record, uint8_t *store, size_t store_len, uint8_t *buffer, size_t buffer_len) {
-    call it = a_runs_call(RUNS_RUN, zone, zone_len, store, store_len, buffer, buffer_len);
+    call it = a_store_call(RUNS_RUN, zone, zone_len, store, store_len, buffer, buffer_len);
     it.format_len = bytes_len;
     it.format_is_null = bytes == NULL;
     it.record = record;
@@ -177,7 +177,7 @@ gs_runs gs_runs_run(gs_runs runs, const uint8_t *bytes, size_t bytes_len, const 
 
 gs_runs gs_runs_end(gs_runs runs, const uint8_t *zone, size_t zone_len, gs_record record, const uint8_t *store,
                     size_t store_len, uint8_t *buffer, size_t buffer_len) {
-    call it = a_runs_call(RUNS_END, zone, zone_len, store, store_len, buffer, buffer_len);
+    call it = a_store_call(RUNS_END, zone, zone_len, store, store_len, buffer, buffer_len);
     it.record = record;
     it.runs = runs;
     return result_of(it, NULL, zone, both_ways(buffer), one_way(store)).runs;
@@ -187,4 +187,21 @@ gs_progress gs_runs_answer(gs_runs runs) {
     call it = a_call(RUNS_ANSWER);
     it.runs = runs;
     return result_of(it, NULL, NULL, one_way(NULL), one_way(NULL)).progress;
+}
+
+gs_answer gs_compile(const uint8_t *format, size_t format_len, uint8_t *stored, size_t stored_len) {
+    call it = a_call(COMPILE);
+    it.format_len = format_len;
+    it.buffer_len = stored_len;
+    it.format_is_null = format == NULL;
+    it.buffer_is_null = stored == NULL;
+    return result_of(it, format, NULL, both_ways(stored), one_way(NULL)).answer;
+}
+
+gs_answer gs_format_stored(const uint8_t *stored, size_t stored_len, size_t format_len, const uint8_t *zone,
+                           size_t zone_len, gs_record record, uint8_t *buffer, size_t buffer_len) {
+    call it = a_store_call(FORMAT_STORED, zone, zone_len, stored, stored_len, buffer, buffer_len);
+    it.total = format_len;
+    it.record = record;
+    return result_of(it, NULL, zone, both_ways(buffer), one_way(stored)).answer;
 }

@@ -90,6 +90,11 @@ static result result_of(const call *it, uint8_t *format, uint8_t *zone, uint8_t 
             gs_runs_end(it->runs, zone, it->zone_len, it->record, store, it->store_len, buffer, it->buffer_len);
     else if (it->entry == RUNS_ANSWER)
         back.progress = gs_runs_answer(it->runs);
+    else if (it->entry == COMPILE)
+        back.answer = gs_compile(format, it->format_len, buffer, it->buffer_len);
+    else if (it->entry == FORMAT_STORED)
+        back.answer = gs_format_stored(store, it->store_len, it->total, zone, it->zone_len, it->record, buffer,
+                                       it->buffer_len);
     else
         back.answer = gs_format(format, it->format_len, zone, it->zone_len, it->record, buffer, it->buffer_len);
     return back;

@@ -1,4 +1,7 @@
 -- The entry's answer and buffer, as a C caller has them.
+use lib.ListN.{length}
+use Rattle.rules.specs.declared.Record.{Record}
+use Rattle.rules.specs.Format.{formatted}
 use Rattle.groatsaddle.proofs.Laws.{report-small, same-small, answered}
 use borrow.Author.Needs.{needs}
 use Rattle.groatsaddle.proofs.gs_format.Statement.{statement}
@@ -13,7 +16,7 @@ returns c =
     let after-record-from = after-format .before .before in
     let start = after-record-from .before .before .before .before in
     let a = start .args in
-    answered (a .format .now) (a .zone .now) (a .buffer .now) (after-record-from .record-from .ensures) _ (c .answer-from .ensures) (after-format .format .ensures .0) (after-format .format .ensures .1)
+    answered (λ (r : Record). formatted (a .format .now) (a .zone .now) r (length (a .buffer .now))) (a .buffer .now) (after-record-from .record-from .ensures) _ (c .answer-from .ensures) (after-format .format .ensures .0) (after-format .format .ensures .1)
 
 pub gs-format-spec : {M : Type 1} → statement M
 gs-format-spec =

@@ -15,7 +15,7 @@ judged-requires c κs = omega (arith, c .before .verdict .ensures, verdict-small
 returns : tie.Need-returns
 returns c =
     let a = c .before .before .before .before .before .args in
-    λ zone. name-failed (a .name) _ (a .«record») zone (c .before .before .before .in-range .ensures zone) (c .before .before .verdict .ensures) (c .before .if1 .taken) (c .judged .ensures _ _ _)
+    λ limit zone. name-failed (a .name) _ (a .«record») zone (c .before .before .before .in-range .ensures zone) (c .before .before .verdict .ensures) (c .before .if1 .taken) (c .judged .ensures _ _ _)
 
 put-name-requires : tie.Need-put-name-requires
 put-name-requires c κs =
@@ -24,7 +24,7 @@ put-name-requires c κs =
     let after-verdict = after-if1 .before in
     let after-in-range = after-verdict .before in
     let s = after-in-range .before .before in
-    (s .pre .0, in-range-named (s .args .name) (s .args .«record») (after-in-range .in-range .ensures) (verdict-held _ (after-verdict .verdict .ensures) (after-if1 .if1 .left)) (after-name-number .name-number .ensures))
+    (s .pre, in-range-named (s .args .name) (s .args .«record») (after-in-range .in-range .ensures) (verdict-held _ (after-verdict .verdict .ensures) (after-if1 .if1 .left)) (after-name-number .name-number .ensures))
 
 returns-2 : tie.Need-returns-2
 returns-2 c =
@@ -35,7 +35,7 @@ returns-2 c =
     let after-verdict = after-if1 .before in
     let after-in-range = after-verdict .before in
     let s = after-in-range .before .before in
-    λ zone. plain-named (s .args .name) (s .args .«record») zone (after-in-range .in-range .ensures zone) (after-verdict .verdict .ensures) (after-if1 .if1 .left) (after-name-number .name-number .ensures) (after-in-capitals .in-capitals .ensures ∙ ap (capitals (s .args .name)) (after-new .new .ensures)) (s .pre .1) (c .before .before .put-name .ensures _)
+    λ limit zone. plain-named (s .args .name) (s .args .«record») zone (after-in-range .in-range .ensures zone) (after-verdict .verdict .ensures) (after-if1 .if1 .left) (after-name-number .name-number .ensures) (after-in-capitals .in-capitals .ensures ∙ ap (capitals (s .args .name)) (after-new .new .ensures)) (c .before .before .put-name .ensures limit)
 
 pub plain-name-spec : {M : Type 1} → statement M
 plain-name-spec =

@@ -10,7 +10,7 @@ judged-requires : tie.Need-judged-requires
 judged-requires c κs = omega (arith, c .verdict .ensures, verdict-small (c .before .time-zone .result))
 
 returns : tie.Need-returns
-returns c = λ r. zone-empty _ r (c .before .before .before .before .before .before .args .zone .now) (c .before .before .before .time-zone .ensures) (c .before .before .verdict .ensures) (c .if1 .taken) (c .before .judged .ensures _ _ _)
+returns c = λ limit r. zone-empty _ r (c .before .before .before .before .before .before .args .zone .now) (c .before .before .before .time-zone .ensures) (c .before .before .verdict .ensures) (c .if1 .taken) (c .before .judged .ensures _ _ _)
 
 returns-2 : tie.Need-returns-2
 returns-2 c =
@@ -19,7 +19,7 @@ returns-2 c =
     let after-verdict = after-judged .before in
     let after-time-zone = after-verdict .before in
     let s = after-time-zone .before .before .before in
-    λ r. plain-zone-named r (s .args .zone .now) (after-time-zone .time-zone .ensures) (after-verdict .verdict .ensures) (after-if1 .if1 .left) (s .pre .1) (after-judged .judged .ensures _ _ _) (c .before .before .put-slice .ensures _)
+    λ limit r. plain-zone-named r (s .args .zone .now) (after-time-zone .time-zone .ensures) (after-verdict .verdict .ensures) (after-if1 .if1 .left) (after-judged .judged .ensures _ _ _) (c .before .before .put-slice .ensures limit)
 
 pub plain-zone-name-spec : {M : Type 1} → statement M
 plain-zone-name-spec =

@@ -13,9 +13,7 @@ cast-put-places c = quotient-fits _ _ (search needs)
 returns : tie.Need-returns
 returns c =
     let after-power = c .before .before .before .before in
-    let after-if1 = after-power .before in
-    let start = after-if1 .before .before in
-    nine-or-fewer _ _ (after-if1 .if1 .taken) (after-power .power .ensures) (start .pre .0 .small) (start .pre .1) (c .before .before .put-places .ensures _)
+    nine-or-fewer _ _ (after-power .before .if1 .taken) (after-power .power .ensures) (c .before .before .put-places .ensures _)
 
 returns-2 : tie.Need-returns-2
 returns-2 c = more-than-nine _ _ (c .before .before .before .before .before .before .before .before .if1 .left) (c .before .before .before .before .before .before .put-places2 .ensures _) (c .before .before .pad .ensures)

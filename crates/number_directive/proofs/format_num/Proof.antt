@@ -10,7 +10,7 @@ returns c =
     let after-if1 = c .before .before .before .before in
     let start = after-if1 .before .before in
     let a = start .args in
-    narrow (fillWith (a .zeros)) (a .width) (a .v) (after-if1 .if1 .taken) (start .pre .1) (as-read (fillWith (a .zeros)) (a .width) (a .v) (start .fits .v) (c .before .before .put-decimal .ensures _))
+    narrow (fillWith (a .zeros)) (a .width) (a .v) (after-if1 .if1 .taken) (as-read (fillWith (a .zeros)) (a .width) (a .v) (start .fits .v) (c .before .before .put-decimal .ensures _))
 
 returns-2 : tie.Need-returns-2
 returns-2 c =

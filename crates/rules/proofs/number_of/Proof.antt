@@ -36,8 +36,12 @@ returns-8 : tie.Need-returns-8
 unfolding numberOf
 returns-8 c = search needs
 
+returns-9 : tie.Need-returns-9
+unfolding numberOf
+returns-9 c = search needs
+
 pub number-of-spec : {M : Type 1} → statement M
 number-of-spec =
     tie.close (tie.spec (λ c. search needs) (λ c. search needs) (λ c. search needs) (λ c. search needs)
-    (λ c. search needs) (λ c. search needs) (λ c. search needs) (λ c. search needs) returns returns-2 returns-3
-    returns-4 returns-5 returns-6 returns-7 returns-8)
+    (λ c. search needs) (λ c. search needs) (λ c. search needs) (λ c. search needs) (λ c. search needs) returns returns-2 returns-3
+    returns-4 returns-5 returns-6 returns-7 returns-8 returns-9)

@@ -1,4 +1,4 @@
--- Each arm answers for its number; the last has none of the seven.
+-- Each arm answers for its number; the last has none of the eight.
 use mathlib.Core.Path.{sym, ap}
 use borrow.Author.Tests.{ne-eqb}
 use Rattle.rules.specs.Refusal.{refusalAt}
@@ -35,10 +35,14 @@ returns-7 c = sym (ap refusalAt (c .match .keys7))
 
 returns-8 : tie.Need-returns-8
 unfolding refusalAt
-returns-8 c =
+returns-8 c = sym (ap refusalAt (c .match .keys8))
+
+returns-9 : tie.Need-returns-9
+unfolding refusalAt
+returns-9 c =
     let no = c .match .rest in
-    simp (ne-eqb _ _ (no .1), ne-eqb _ _ (no .0 .1), ne-eqb _ _ (no .0 .0 .1), ne-eqb _ _ (no .0 .0 .0 .1), ne-eqb _ _ (no .0 .0 .0 .0 .1), ne-eqb _ _ (no .0 .0 .0 .0 .0 .1), ne-eqb _ _ (no .0 .0 .0 .0 .0 .0 .1))
+    simp (ne-eqb _ _ (no .1), ne-eqb _ _ (no .0 .1), ne-eqb _ _ (no .0 .0 .1), ne-eqb _ _ (no .0 .0 .0 .1), ne-eqb _ _ (no .0 .0 .0 .0 .1), ne-eqb _ _ (no .0 .0 .0 .0 .0 .1), ne-eqb _ _ (no .0 .0 .0 .0 .0 .0 .1), ne-eqb _ _ (no .0 .0 .0 .0 .0 .0 .0 .1))
 
 pub refusal-of-spec : {M : Type 1} → statement M
 refusal-of-spec =
-    tie.close (tie.spec returns returns-2 returns-3 returns-4 returns-5 returns-6 returns-7 returns-8)
+    tie.close (tie.spec returns returns-2 returns-3 returns-4 returns-5 returns-6 returns-7 returns-8 returns-9)

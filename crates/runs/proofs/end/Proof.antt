@@ -6,7 +6,7 @@ use lib.Seq.{length-take-le}
 use Rattle.rules.specs.Runs.{close}
 use borrow.Author.Needs.{needs}
 use Rattle.runs.proofs.NumberLaws.{end-good}
-use Rattle.runs.proofs.ReadLaws.{end-limit-holds, end-read}
+use Rattle.runs.proofs.ReadLaws.{end-read}
 use Rattle.runs.proofs.EntryLaws.{kept-fits, after-end, after-refusal, end-own, end-through}
 use Rattle.runs.proofs.end.Statement.{statement}
 use Rattle.runs.proofs.end.Tie as tie
@@ -40,11 +40,8 @@ mul-run-from c =
 run-from-requires : tie.Need-run-from-requires
 run-from-requires c κs =
     let a = c .before .before .before .before .before .before .before .before .before .before .before .before .args in
-    let g = end-good (c .before .before .before .before .before .before .before .before .as-read .result) (length (a .zone .now)) (length (a .buffer .now)) (sym (c .before .before .before .before .end-number .ensures) ∙ c .before .before .before .if3 .left) in (
-      record { within = omega arith; small = g .small },
-      omega arith,
-      end-limit-holds (c .before .before .before .before .before .before .before .before .as-read .result) (a .zone .now) (a .«record») (a .store .now) (a .buffer .now) (kept-fits (a .zone .now) (a .«record») (a .s) (a .store .now) (a .buffer .now) _ (c .before .before .before .before .before .before .before .before .as-read .ensures _ refl)) g,
-    )
+    let g = end-good (c .before .before .before .before .before .before .before .before .as-read .result) (length (a .zone .now)) (length (a .buffer .now)) (sym (c .before .before .before .before .end-number .ensures) ∙ c .before .before .before .if3 .left) in
+    (record { within = omega arith; small = g .small }, omega arith)
 
 returns-4 : tie.Need-returns-4
 returns-4 c =

@@ -3,7 +3,7 @@ use mathlib.Core.Path.{sym}
 use native.Mathlib.Omega.{arith}
 use lib.Seq.{length-take-le}
 use borrow.Author.Needs.{needs}
-use Rattle.runs.proofs.ReadLaws.{end-within, from-within, from-inside, limit-holds, run-read}
+use Rattle.runs.proofs.ReadLaws.{end-within, from-within, from-inside, run-read}
 use Rattle.runs.proofs.read_run.Statement.{statement}
 use Rattle.runs.proofs.read_run.Tie as tie
 
@@ -28,9 +28,7 @@ slice-aggregate-run-from c =
     sym (length-take-le _ _ (from-inside (a .s) (a .zone .now) (a .«record») (a .store .now) (a .buffer .now) (a .bytes .now) (c .before .before .before .before .before .before .before .before .before .before .before .pre) (c .before .before .before .before .before .take-in .last .0) (c .before .before .before .before .before .take-in .ensures) (c .before .pending-from .result) (c .before .pending-from .ensures)))
 
 run-from-requires : tie.Need-run-from-requires
-run-from-requires c κs =
-    let a = c .before .before .before .before .before .before .before .before .before .before .before .before .before .args in
-    (record { within = omega arith; small = c .before .before .before .before .before .before .before .before .before .before .before .before .before .pre .small }, omega arith, limit-holds (a .s) (a .zone .now) (a .«record») (a .store .now) (a .buffer .now) (a .bytes .now) (c .before .before .before .before .before .before .before .before .before .before .before .before .before .pre) (c .before .before .before .before .before .before .before .take-in .last .0) (c .before .before .before .before .before .before .before .take-in .ensures) (c .before .before .before .pending-from .result) (c .before .before .before .pending-from .ensures))
+run-from-requires c κs = (record { within = omega arith; small = c .before .before .before .before .before .before .before .before .before .before .before .before .before .pre .small }, omega arith)
 
 sub-left : tie.Need-sub-left
 sub-left c =

@@ -7,8 +7,9 @@ use lib.ListN.{length, replicate}
 use lib.Seq.{length-take-le}
 use Rattle.rules.specs.Refusal.{ByEvent}
 use Rattle.rules.proofs.FormatLaws.{runs, format-too-long, zone-too-long, buffer-too-long, numbered-items}
+use Rattle.rules.proofs.Promised.{declined}
 use Rattle.text.proofs.PlaceLaws.{refused-yes, refused-no}
-use Rattle.strftime.proofs.EntryOutcomes.{declined, refusal-known, refused-there, done-there}
+use Rattle.strftime.proofs.EntryOutcomes.{refusal-known, refused-there, done-there}
 use borrow.Author.Needs.{needs}
 use Rattle.strftime.proofs.format.Statement.{statement}
 use Rattle.strftime.proofs.format.Tie as tie

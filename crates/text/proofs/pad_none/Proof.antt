@@ -8,7 +8,7 @@ use Rattle.text.proofs.pad_none.Statement.{statement}
 use Rattle.text.proofs.pad_none.Tie as tie
 
 returns : tie.Need-returns
-returns c = λ byte. as-pad (λ k. omega arith) (placed (sym (overlay-nil _ _)) (omega arith) (c .if1 .taken) (c .before .before .pre .0))
+returns c = λ byte. as-pad (λ k some. absurd (omega arith)) (placed (sym (overlay-nil _ _)) (omega arith) (c .if1 .taken) (c .before .before .pre))
 
 returns-2 : tie.Need-returns-2
 returns-2 c = λ byte. any-byte (c .before .before .pad .ensures)

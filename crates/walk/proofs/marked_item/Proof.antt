@@ -8,11 +8,11 @@ use Rattle.walk.proofs.marked_item.Tie as tie
 
 returns : tie.Need-returns
 returns c =
-    step-short _ (c .before .before .before .before .before .before .before .before .before .before .before .before .pre .3) (c .before .before .before .before .before .before .before .before .byte-at .ensures) (c .before .before .before .before .before .before .if1 .taken) (c .before .before .before .before .before .before .before .byte-at2 .ensures) (c .before .before .before .before .before .short-of .ensures (c .before .before .before .before .if2 .taken)) refl (c .before .before .put-short .ensures _)
+    step-short _ (c .before .before .before .before .before .before .before .before .before .before .before .before .pre .2) (c .before .before .before .before .before .before .before .before .byte-at .ensures) (c .before .before .before .before .before .before .if1 .taken) (c .before .before .before .before .before .before .before .byte-at2 .ensures) (c .before .before .before .before .before .short-of .ensures (c .before .before .before .before .if2 .taken)) refl (c .before .before .put-short .ensures _)
 
 returns-2 : tie.Need-returns-2
 returns-2 c =
-    step-colon _ (c .before .before .before .before .before .before .before .before .before .before .before .before .pre .3) (c .before .before .before .before .before .before .before .before .byte-at .ensures) (c .before .before .before .before .before .if3 .taken) (c .before .before .before .before .before .before .before .byte-at2 .ensures) (eqb-true _ 122 (c .before .before .before .before .if4 .taken)) refl (c .before .before .plain-offset .ensures _)
+    step-colon _ (c .before .before .before .before .before .before .before .before .before .before .before .before .pre .2) (c .before .before .before .before .before .before .before .before .byte-at .ensures) (c .before .before .before .before .before .if3 .taken) (c .before .before .before .before .before .before .before .byte-at2 .ensures) (eqb-true _ 122 (c .before .before .before .before .if4 .taken)) refl (c .before .before .plain-offset .ensures _)
 
 pub marked-item-spec : {M : Type 1} → statement M
 marked-item-spec =

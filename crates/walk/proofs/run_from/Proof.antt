@@ -21,17 +21,14 @@ loop-holds : tie.Need-loop-holds Inv-loop μ-loop
 loop-holds c = walk-start (c .before .before .before .pre .1)
 
 letter-requires : tie.Need-letter-requires Inv-loop μ-loop
-letter-requires c κs =
-    let w = c .before .before .before .before .before .loop .inv in
-    (room-kept (w .ran) (c .before .before .before .before .before .before .before .before .before .pre .0), c .before .before .before .before .before .before .before .before .before .pre .2 (omega (arith, w .onward, c .before .before .before .before .loop-test .taken)))
+letter-requires c κs = room-kept (c .before .before .before .before .before .loop .inv .ran) (c .before .before .before .before .before .before .before .before .before .pre .0)
 
 loop-again : tie.Need-loop-again Inv-loop μ-loop
 loop-again c = walk-item _ (c .before .before .before .before .before .before .before .before .before .loop .inv) (step-plain (c .before .before .before .before .before .before .if1 .taken) (c .before .before .before .before .before .byte-at .ensures) (was-letter (c .before .before .before .letter .ensures) (c .if2 .taken)))
 
 marked-item-requires : tie.Need-marked-item-requires Inv-loop μ-loop
 marked-item-requires c κs =
-    let w = c .before .before .before .before .before .before .before .before .before .before .loop .inv in
-    (room-left (c .before .before .before .before .letter .ensures) (room-kept (w .ran) (c .before .before .before .before .before .before .before .before .before .before .before .before .before .before .pre .0)), c .before .before .before .before .before .before .before .before .before .before .before .before .before .before .pre .2 (omega (arith, w .onward, c .before .before .before .before .before .before .before .before .before .loop-test .taken)), c .before .before .before .before .before .before .before .before .before .loop-test .taken, c .before .before .before .before .before .before .before .if1 .taken)
+    (room-left (c .before .before .before .before .letter .ensures) (room-kept (c .before .before .before .before .before .before .before .before .before .before .loop .inv .ran) (c .before .before .before .before .before .before .before .before .before .before .before .before .before .before .pre .0)), c .before .before .before .before .before .before .before .before .before .loop-test .taken, c .before .before .before .before .before .before .before .if1 .taken)
 
 loop-less-2 : tie.Need-loop-less-2 Inv-loop μ-loop
 loop-less-2 c = omega (arith, c .before .before .marked-item .ensures .onward, c .before .before .marked-item .ensures .within)

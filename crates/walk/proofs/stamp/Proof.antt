@@ -22,7 +22,7 @@ loop-holds : tie.Need-loop-holds Inv-loop μ-loop
 loop-holds c = stamping-start
 
 letter-requires : tie.Need-letter-requires Inv-loop μ-loop
-letter-requires c κs = (stamping-room (c .before .before .before .before .before .before .before .before .before .before .before .pre) (c .before .before .before .before .before .loop .inv), omega (arith, c .before .before .before .before .before .before .limit-of .ensures, c .before .before .before .before .loop-test .taken))
+letter-requires c κs = stamping-room (c .before .before .before .before .before .before .before .before .before .before .before .pre) (c .before .before .before .before .before .loop .inv)
 
 loop-again : tie.Need-loop-again Inv-loop μ-loop
 loop-again c =
@@ -31,7 +31,7 @@ loop-again c =
 
 marked-item-requires : tie.Need-marked-item-requires Inv-loop μ-loop
 marked-item-requires c κs =
-    (room-left (c .before .before .before .before .before .letter .ensures) (stamping-room (c .before .before .before .before .before .before .before .before .before .before .before .before .before .before .before .before .before .pre) (c .before .before .before .before .before .before .before .before .before .before .before .loop .inv)), omega (arith, c .before .before .before .before .before .before .before .before .before .before .before .before .limit-of .ensures, c .before .before .before .before .before .before .before .before .before .before .loop-test .taken), c .before .before .before .before .before .before .before .before .before .before .loop-test .taken, c .before .before .before .before .before .before .before .before .if1 .taken)
+    (room-left (c .before .before .before .before .before .letter .ensures) (stamping-room (c .before .before .before .before .before .before .before .before .before .before .before .before .before .before .before .before .before .pre) (c .before .before .before .before .before .before .before .before .before .before .before .loop .inv)), c .before .before .before .before .before .before .before .before .before .before .loop-test .taken, c .before .before .before .before .before .before .before .before .if1 .taken)
 
 rest-requires : tie.Need-rest-requires Inv-loop μ-loop
 rest-requires c κs =
@@ -58,7 +58,7 @@ returns-2 : tie.Need-returns-2 Inv-loop μ-loop
 returns-2 c = handed-back (c .before .before .before .before .before .before .before .before .before .before .before .before .before .before .before .before .before .before .before .before .before .before .before .pre) (c .before .before .before .before .before .before .before .before .before .before .before .before .before .before .before .before .before .loop .inv) (length-left (c .before .before .before .before .before .before .before .before .before .before .before .letter .ensures)) (c .before .before .before .before .rest2 .ensures)
 
 copy-literal-requires : tie.Need-copy-literal-requires Inv-loop μ-loop
-copy-literal-requires c κs = (c .before .before .before .before .loop .inv .begun .inside, c .before .before .before .before .loop .inv .begun .within)
+copy-literal-requires c κs = (c .before .before .before .before .loop .inv .begun .front .inside, c .before .before .before .before .loop .inv .begun .within)
 
 rest-requires-3 : tie.Need-rest-requires-3 Inv-loop μ-loop
 rest-requires-3 c κs =

@@ -1,0 +1,15 @@
+-- A code for each.
+use mathlib.Core.Path.{ap}
+use Rattle.rules.specs.declared.Spec.the-variants.{Fixed}
+use Rattle.rules.specs.Stored.{codeOf}
+use Rattle.codes.proofs.CodeLaws.{coded}
+use borrow.Author.Needs.{needs}
+use Rattle.codes.proofs.code.fixed_code.Statement.{statement}
+use Rattle.codes.proofs.code.fixed_code.Tie as tie
+
+pub fixed-code-spec : {M : Type 1} → statement M
+unfolding codeOf
+fixed-code-spec =
+    tie.close (tie.spec (λ c. search needs) (λ c. search needs) (λ c. search needs)
+    (λ c. coded (ap Fixed (c .enum-told .given .1))) (λ c. coded (ap Fixed (c .enum-told2 .given .1)))
+    (λ c. coded (ap Fixed (c .enum-told3 .given .1))))

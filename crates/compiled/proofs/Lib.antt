@@ -1,0 +1,3 @@
+pub mod CompileLaws
+pub mod PartLaws
+pub mod SectionLaws
