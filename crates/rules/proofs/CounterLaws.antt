@@ -18,7 +18,7 @@ use Rattle.rules.specs.declared.Dated.TheVariants as of-dated
 use Rattle.rules.specs.declared.Counted.{Counted}
 use Rattle.rules.specs.declared.Counted.TheVariants as of-counted
 use Rattle.rules.specs.Refusal.{refusal_at}
-use Rattle.rules.specs.Record.{InI32, InI64, month, day, hour, minute, second, nanoseconds, weekday, day_of_year, zone_name, zone_ok, within, ok_field, InRange}
+use Rattle.rules.specs.Record.{Field, InI32, InI64, month, day, hour, minute, second, nanoseconds, weekday, day_of_year, zone_name, zone_ok, within, ok_field, InRange}
 use Rattle.rules.specs.Decimal.{floor_div}
 use Rattle.rules.specs.Calendar.{leap_day, days_in, Exists, year_day, day_number, weekday_of, DateOf}
 use Rattle.rules.specs.Counter.{Reply, dated_reply, counted_reply, seconds_of, OnClock, RecordFor, DatedBy, too_many, sum_leaves, year_leaves, made, Countable, count_of, CountedBy, invalid, counted}
@@ -171,7 +171,7 @@ module _ {count offset : ℤ} {nanos : ℕ} {utc : Bool} (r : Record) (made-r : 
   made_in_range zone ok f =
       let p = made_record.0 in
       let x = p.date.exists in
-      elim f [
+      elim f as (λ (f : Field). T (ok_field f r zone)) [
         | month ↦ both_pass x.month_from x.month_to
         | day ↦ both_pass x.day_from (omega (arith, x.day_to, month_to (leap_day r.year) r.month (leap_day_to r.year) x.month_from x.month_to))
         | hour ↦ le→leb _ _ p.clock.hour

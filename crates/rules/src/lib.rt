@@ -11,7 +11,7 @@ pub const LONGEST_ZONE: usize = 64;
 pub const LONGEST_BUFFER: usize = 65536;
 
 // A time, flat: the fields are independent. The zone name is a byte slice beside it.
-#[derive(Drop)]
+#[derive(Clone, Copy)]
 pub struct Record {
     pub year: i32,
     pub month: u8,
@@ -27,14 +27,14 @@ pub struct Record {
     pub utc_offset: i32,
 }
 
-#[derive(Drop)]
+#[derive(Clone, Copy)]
 pub enum Flag {
     LeftPadding,
     ChangeCase,
     UpperCase,
 }
 
-#[derive(Drop)]
+#[derive(Clone, Copy)]
 pub struct Flags {
     pub left: bool,
     pub change: bool,
@@ -80,7 +80,7 @@ impl Flags {
     }
 }
 
-#[derive(Drop)]
+#[derive(Clone, Copy)]
 pub enum Padding {
     Left,
     Spaces,
@@ -88,7 +88,7 @@ pub enum Padding {
 }
 
 // The directives by kind, the original's names in each kind.
-#[derive(Drop)]
+#[derive(Clone, Copy)]
 pub enum Number {
     Year4Digits,
     YearDiv100,
@@ -113,7 +113,7 @@ pub enum Number {
     SecondsSinceEpoch,
 }
 
-#[derive(Drop)]
+#[derive(Clone, Copy)]
 pub enum Name {
     MonthName,
     MonthNameAbbr,
@@ -123,13 +123,13 @@ pub enum Name {
     WeekDayNameAbbr,
 }
 
-#[derive(Drop)]
+#[derive(Clone, Copy)]
 pub enum Fraction {
     MilliSecond,
     FractionalSecond,
 }
 
-#[derive(Drop)]
+#[derive(Clone, Copy)]
 pub enum Offset {
     TimeZoneOffsetHourMinute,
     TimeZoneOffsetHourMinuteColon,
@@ -137,14 +137,14 @@ pub enum Offset {
     TimeZoneOffsetColonMinimal,
 }
 
-#[derive(Drop)]
+#[derive(Clone, Copy)]
 pub enum Fixed {
     Newline,
     Tabulation,
     Percent,
 }
 
-#[derive(Drop)]
+#[derive(Clone, Copy)]
 pub enum Combination {
     CombinationDateTime,
     CombinationDate,
@@ -155,7 +155,7 @@ pub enum Combination {
     CombinationTime24h,
 }
 
-#[derive(Drop)]
+#[derive(Clone, Copy)]
 pub enum Spec {
     Number(Number),
     Name(Name),
@@ -167,27 +167,27 @@ pub enum Spec {
 }
 
 // A week-based year and its week number.
-#[derive(Drop)]
+#[derive(Clone, Copy)]
 pub struct IsoWeek {
     pub year: i64,
     pub week: u8,
 }
 
 // What the table of directives has for a letter.
-#[derive(Drop)]
+#[derive(Clone, Copy)]
 pub enum Entry {
     Is(Spec),
     Missing,
 }
 
-#[derive(Drop)]
+#[derive(Clone, Copy)]
 pub enum Width {
     Unset,
     Of(usize),
 }
 
 // A directive. `skipped`: an `E` or `O` stood before its letter.
-#[derive(Drop)]
+#[derive(Clone, Copy)]
 pub struct Piece {
     pub width: Width,
     pub padding: Padding,
@@ -197,27 +197,27 @@ pub struct Piece {
 }
 
 // What stands at a percent sign: a directive or an echo, and where the format goes on; or the format ends inside it.
-#[derive(Drop)]
+#[derive(Clone, Copy)]
 pub enum Parsed {
     Directive(Piece, usize),
     Echo(usize),
     Cut,
 }
 
-#[derive(Drop)]
+#[derive(Clone, Copy)]
 pub struct Options {
     pub padding: Padding,
     pub flags: Flags,
 }
 
-#[derive(Drop)]
+#[derive(Clone, Copy)]
 pub enum Modifier {
     E,
     O,
 }
 
 // Where the reading of a directive stands between two bytes.
-#[derive(Drop)]
+#[derive(Clone, Copy)]
 pub enum Reading {
     InFlags(Options),
     InWidth(Options, usize),
@@ -226,7 +226,7 @@ pub enum Reading {
 }
 
 // What one more byte does: the directive goes on; it ends with this byte, as a piece or as an echo; it ended before it, as an echo.
-#[derive(Drop)]
+#[derive(Clone, Copy)]
 pub enum Turn {
     More(Reading),
     Found(Piece),
@@ -234,7 +234,7 @@ pub enum Turn {
     Unread,
 }
 
-#[derive(Drop)]
+#[derive(Clone, Copy)]
 pub enum Refusal {
     InvalidTime,
     InvalidFormatString,
@@ -248,6 +248,7 @@ pub enum Refusal {
 }
 
 // A refusal's number in the table.
+#[tactic(auto, unfolding(crate::specs::Refusal::number_of))]
 pub fn number_of(refusal: Refusal) -> u32
     ensures { result ≡ number_of refusal }
 {
@@ -265,6 +266,7 @@ pub fn number_of(refusal: Refusal) -> u32
 }
 
 // The refusal with a number of the table; with any other it is WriteZero.
+#[tactic(auto, unfolding(crate::specs::Refusal::refusal_at))]
 pub fn refusal_of(number: usize) -> Refusal
     ensures { result ≡ refusal_at number }
 {
@@ -281,20 +283,20 @@ pub fn refusal_of(number: usize) -> Refusal
     }
 }
 
-#[derive(Drop)]
+#[derive(Clone, Copy)]
 pub enum Answer {
     Done(usize),
     Refused(Refusal),
 }
 
 // A record from a count, and a count from a record.
-#[derive(Drop)]
+#[derive(Clone, Copy)]
 pub enum Dated {
     Made(Record),
     Refused(Refusal),
 }
 
-#[derive(Drop)]
+#[derive(Clone, Copy)]
 pub enum Counted {
     Count(i64),
     Refused(Refusal),
@@ -302,7 +304,7 @@ pub enum Counted {
 
 // A format that arrives in runs, between two calls: its length; how many bytes are read for good, and how many of the directive that is not
 // yet wholly read are kept in the store; how far the text came; the refusal's number, or 0; and whether the end was called.
-#[derive(Drop)]
+#[derive(Clone, Copy)]
 pub struct Runs {
     pub total: usize,
     pub passed: usize,
@@ -313,7 +315,7 @@ pub struct Runs {
 }
 
 // What a call answers.
-#[derive(Drop)]
+#[derive(Clone, Copy)]
 pub enum Progress {
     More,
     Done(usize),
