@@ -1,6 +1,8 @@
 // Added to the original: a record from a count of seconds since 1970-01-01 UTC, and back, by the proleptic Gregorian calendar.
 //
 // Inside, years and days are counted from a January 1 that lies 730,700,000 times 400 years before that of year 1: before every day of an i64's seconds.
+#![tactic(auto)]
+
 ghost use Rattle.std.specs.Prelude.{◌≡◌, ◌+◌, ◌<◌, ◌≤◌};
 ghost use Rattle.std.specs.Int.Signed.{mag};
 ghost use Rattle.rules.specs.Decimal.{floor_div, floor_mod};
@@ -18,19 +20,19 @@ const EPOCH: u64 = 106753078619162;
 
 const YEARS: u64 = 292279999999;
 
-#[derive(Drop)]
+#[derive(Clone, Copy)]
 enum Local {
     At(i64),
     Out,
 }
 
-#[derive(Drop)]
+#[derive(Clone, Copy)]
 struct Moment {
     day: i64,
     second: u64,
 }
 
-#[derive(Drop)]
+#[derive(Clone, Copy)]
 struct Date {
     year: i64,
     month: u8,
@@ -39,7 +41,7 @@ struct Date {
     day_of_year: u16,
 }
 
-#[derive(Drop)]
+#[derive(Clone, Copy)]
 enum Day {
     At(i64),
     Missing,

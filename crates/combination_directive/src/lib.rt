@@ -1,4 +1,6 @@
 // Ports the arms of `Piece::fmt` of mod.rs that write combinations: padding first, then the check, then one text.
+#![tactic(auto)]
+
 ghost use Rattle.std.specs.Prelude.{◌≡◌, Bool, List, [], ◌∷◌, ℕ, ◌<◌, length};
 ghost use Rattle.rules.specs.declared.Combination.TheVariants as kind;
 ghost use Rattle.rules.specs.declared.Spec.TheVariants as spec;

@@ -1,4 +1,6 @@
 // Compiles a format (02, request 6): its stored form in the caller's buffer.
+#![tactic(auto)]
+
 mod parts;
 mod put;
 
@@ -12,14 +14,14 @@ use reading::fault_of;
 use rules::{Answer, LONGEST_BUFFER, LONGEST_FORMAT, Piece, Refusal};
 
 // What stands at a position: bytes that stand for themselves up to an end, or a directive, and where the format goes on; or no part more.
-#[derive(Drop)]
+#[derive(Clone, Copy)]
 pub enum Next {
     Text(usize),
     Directive(Piece, usize),
     End,
 }
 
-#[derive(Drop)]
+#[derive(Clone, Copy)]
 pub enum Section {
     Literals,
     Directives,

@@ -1,5 +1,7 @@
 // Ports `Cursor` of utils.rs. A function over the struct is proved by hand, so each hands its slice on to one that takes plain slices.
 // It is passed by value: `advanced` hands out a cursor where the original moves its own.
+#![tactic(auto)]
+
 ghost use Rattle.std.specs.Prelude.{◌≡◌, drop};
 ghost use Rattle.rules.specs.declared.Reading.TheVariants.{InFlags};
 ghost use Rattle.rules.specs.Reading.{outset};
@@ -26,7 +28,7 @@ fn parse_front(remaining: &[u8]) -> Parsed
 }
 
 // "A `Cursor` contains a slice of a buffer": the data that remains to be read.
-#[derive(Drop)]
+#[derive(Clone, Copy)]
 struct Cursor<'a> {
     remaining: &'a [u8],
 }

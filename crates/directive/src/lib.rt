@@ -1,4 +1,6 @@
 // Ports `Piece::fmt` of mod.rs: a directive, by its kind.
+#![tactic(auto)]
+
 ghost use Rattle.rules.specs.Writing.{events_of};
 ghost use Rattle.text.specs.Ran.{Ran};
 ghost use Rattle.text.specs.Room.{Room};

@@ -1,4 +1,6 @@
 // Prints paper 01's stamps at the edges, and what each should be where it is another.
+#![tactic(auto)]
+
 mod edge;
 mod records;
 

@@ -1,4 +1,6 @@
 // Ports check.rs: whether a field is in its range, and what a directive's check comes to.
+#![tactic(auto)]
+
 ghost use Rattle.std.specs.Prelude.{◌≡◌, List, [], ◌∷◌, ℕ};
 ghost use Rattle.rules.specs.Record.{ok_field, all_ok, zone_byte_ok, zone_ok, last_day_of, month, day, hour, minute, second, nanoseconds, weekday, day_of_year};
 ghost use Rattle.rules.specs.Writing.{combination_fields, verdict};

@@ -9,7 +9,7 @@ use rules::{Progress, Runs};
 
 // `over` is a byte, since a C caller can put anything there: 0 is no, all else is yes.
 #[repr(C)]
-#[derive(Drop)]
+#[derive(Clone, Copy)]
 pub struct GsRuns {
     pub total: usize,
     pub passed: usize,
@@ -20,7 +20,7 @@ pub struct GsRuns {
 }
 
 #[repr(C)]
-#[derive(Drop)]
+#[derive(Clone, Copy)]
 pub struct GsProgress {
     pub refusal: u32,
     pub more: u8,

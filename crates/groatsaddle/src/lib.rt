@@ -1,5 +1,7 @@
 // The entries over the C ABI: lib.rs of the original, sizing, a record from a count and back, a format in runs, and a compiled format.
 // `include/groatsaddle.h` declares them.
+#![tactic(auto)]
+
 mod by_runs;
 mod by_stored;
 
@@ -19,7 +21,7 @@ use rules::{Answer, Counted, Dated, Record};
 
 // `is_utc` is a byte, since a C caller can put anything there: 0 is no, all else is yes.
 #[repr(C)]
-#[derive(Drop)]
+#[derive(Clone, Copy)]
 pub struct GsRecord {
     pub year: i32,
     pub month: u8,
@@ -36,21 +38,21 @@ pub struct GsRecord {
 }
 
 #[repr(C)]
-#[derive(Drop)]
+#[derive(Clone, Copy)]
 pub struct GsAnswer {
     pub refusal: u32,
     pub length: u32,
 }
 
 #[repr(C)]
-#[derive(Drop)]
+#[derive(Clone, Copy)]
 pub struct GsDated {
     pub refusal: u32,
     pub record: GsRecord,
 }
 
 #[repr(C)]
-#[derive(Drop)]
+#[derive(Clone, Copy)]
 pub struct GsCounted {
     pub refusal: u32,
     pub count: i64,

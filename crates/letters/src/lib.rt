@@ -1,4 +1,6 @@
 // The plain directive of a letter: no flag, no width, the default padding. It needs no parser and no kind: one match on the letter.
+#![tactic(auto)]
+
 mod leaves;
 pub mod short;
 

@@ -1,4 +1,6 @@
 // Added to the original: reads the stored list of its answers. tests/compare/README.md has the form of a line.
+#![tactic(auto)]
+
 mod number;
 mod record;
 mod text;
@@ -12,7 +14,7 @@ use rules::Record;
 use text::{Text, read_field, read_text};
 
 // The numbers of bytes are those that were put at the starts of the lent buffers.
-#[derive(Drop)]
+#[derive(Clone, Copy)]
 pub struct Case {
     pub format: usize,
     pub zone: usize,
@@ -22,13 +24,13 @@ pub struct Case {
     pub text: usize,
 }
 
-#[derive(Drop)]
+#[derive(Clone, Copy)]
 pub enum Line {
     Case(Case),
     Unread,
 }
 
-#[derive(Drop)]
+#[derive(Clone, Copy)]
 enum Told {
     Is(u64, usize),
     Missing,

@@ -6,7 +6,7 @@ use crate::number::{Number, Signed, read_number, read_signed};
 use rules::Record;
 
 // The record with the fields that were read, and the next position.
-#[derive(Drop)]
+#[derive(Clone, Copy)]
 pub enum Fields {
     Are(Record, usize),
     Missing,

@@ -5,28 +5,28 @@ ghost use Rattle.lines.specs.Within.{Holds, DigitWithin, LetterWithin, RunWithin
 use crate::number::{Number, has_byte, read_digits};
 
 // A hexadecimal digit.
-#[derive(Drop)]
+#[derive(Clone, Copy)]
 enum Digit {
     Is(u8),
     Missing,
 }
 
 // A byte and the next position.
-#[derive(Drop)]
+#[derive(Clone, Copy)]
 enum Letter {
     Is(u8, usize),
     Missing,
 }
 
 // A byte, how many times it stands, and the next position.
-#[derive(Drop)]
+#[derive(Clone, Copy)]
 enum Run {
     Of(u8, usize, usize),
     Missing,
 }
 
 // How many bytes there are, and the next position.
-#[derive(Drop)]
+#[derive(Clone, Copy)]
 pub enum Text {
     Of(usize, usize),
     Missing,

@@ -1,4 +1,6 @@
 // Ports `format_string` of mod.rs, and the arms of its `Piece::fmt` that write names, the zone name and single bytes.
+#![tactic(auto)]
+
 ghost use Rattle.std.specs.Prelude.{◌≡◌, Bool, List, [], ◌∷◌, map, ℕ, ◌+◌, ◌≤◌, length};
 ghost use Rattle.rules.specs.declared.Record as declared;
 ghost use Rattle.rules.specs.declared.Spec.TheVariants as spec;

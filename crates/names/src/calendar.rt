@@ -110,7 +110,7 @@ pub fn put_month(out: &mut [u8], at: usize, room: usize, month: u8, upper: bool)
 }
 
 // The first three letters of a name.
-#[derive(Drop)]
+#[derive(Clone, Copy)]
 pub struct Three(pub u8, pub u8, pub u8);
 
 // The three letters as one number, the first in the lowest byte. A constant is laid down anew at each use: these are short, DAYS and MONTHS are not.

@@ -1,4 +1,6 @@
 // Ports `format_num_zeros`, `format_num_spaces`, `pad_width` and `format_nanoseconds` of mod.rs, and the arms of its `Piece::fmt` that call them.
+#![tactic(auto)]
+
 ghost use Rattle.std.specs.Prelude.{◌≡◌, false, List, ◌∷◌, map, ℕ};
 ghost use Rattle.rules.specs.declared.Fraction as declared;
 ghost use Rattle.rules.specs.declared.Spec.TheVariants as spec;

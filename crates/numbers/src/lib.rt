@@ -1,4 +1,6 @@
 // Ports what core::fmt and the integers' own methods do for mod.rs: numbers as text, magnitudes, floor quotients.
+#![tactic(auto)]
+
 mod pairs;
 
 ghost use Rattle.std.specs.Prelude.{◌≡◌, ℕ, ◌+◌, ◌-◌, ◌*◌, ◌/◌, ◌%◌, ◌^◌, ◌<◌, ◌≤◌, [], ◌∷◌, ◌++◌, length, take, drop, replicate, pos, unsigned_abs};
@@ -67,7 +69,7 @@ pub fn ones(v: u8) -> u8
 }
 
 // The two digits of a number below 100.
-#[derive(Drop)]
+#[derive(Clone, Copy)]
 pub struct TwoDigits(pub u8, pub u8);
 
 pub fn two_digits(v: u8) -> TwoDigits
@@ -159,7 +161,7 @@ pub fn write_places(out: &mut [u8], at: usize, count: usize, v: u64)
     out[at] = 48 + (n % 10) as u8;
 }
 
-#[derive(Drop)]
+#[derive(Clone, Copy)]
 pub struct Decimal {
     pub bytes: [u8; 20],
     pub count: usize,

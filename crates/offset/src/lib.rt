@@ -1,4 +1,6 @@
 // Ports `UtcOffset` and `compute_offset_parts` of mod.rs: an offset from UTC in parts. Its hour is an f64, so that zero has a sign; `offset_parts` gives it in plain numbers.
+#![tactic(auto)]
+
 ghost use Rattle.std.specs.Prelude.{◌≡◌, not, cond, T};
 ghost use Rattle.std.specs.Float.Ieee.{is_nan};
 ghost use Rattle.rules.specs.Offset.{hours_of, minutes_of, seconds_of, minus};
@@ -7,7 +9,7 @@ ghost use Rattle.offset.specs.Parts.{parts_for};
 
 use numbers::unsigned_abs;
 
-#[derive(Drop)]
+#[derive(Clone, Copy)]
 struct UtcOffset {
     pub hour: f64,
     pub minute: u32,
@@ -15,7 +17,7 @@ struct UtcOffset {
 }
 
 // `extra` is 1 where the signed hour is below 10: the text then has one place more.
-#[derive(Drop)]
+#[derive(Clone, Copy)]
 pub struct OffsetParts {
     pub minus: bool,
     pub extra: usize,

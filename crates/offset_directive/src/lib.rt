@@ -1,5 +1,7 @@
 // Ports the offsets of mod.rs: `write_hour_sign`, `write_offset_hour`, the four `write_offset_hh..`, and the `TimeZoneOffset..` arms of `Piece::fmt`.
 // A form is told by its length: +hh 3, +hhmm 5, +hh:mm 6, +hh:mm:ss 9.
+#![tactic(auto)]
+
 ghost use Rattle.std.specs.Prelude.{◌≡◌, not, List, [], ◌∷◌, ◌++◌, map, ℕ, ◌+◌, ◌-◌, ◌≤◌, ◌<◌, ℤ};
 ghost use Rattle.rules.specs.declared.Spec.TheVariants as spec;
 ghost use Rattle.rules.specs.Event as event;

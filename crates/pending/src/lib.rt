@@ -1,4 +1,6 @@
 // Added: of a format that has not all arrived, where the directive starts that is not yet wholly read.
+#![tactic(auto)]
+
 ghost use Rattle.std.specs.Prelude.{◌≡◌, ◌-◌, ◌<◌, length, get_or};
 ghost use Rattle.rules.specs.Format.{between, after};
 ghost use Rattle.rules.specs.Runs.{pending_of};

@@ -1,4 +1,6 @@
 // Ports what core::fmt writes for mod.rs (`{:0width$}` and `{: >width$}`), `write_padding` and `year_width` of mod.rs.
+#![tactic(auto)]
+
 ghost use Rattle.std.specs.Prelude.{◌≡◌, ℕ, ◌-◌, ◌<◌, [], ◌∷◌, length};
 ghost use Rattle.rules.specs.Event as event;
 ghost use Rattle.rules.specs.Decimal.{places, zeros, fill_byte, filled};

@@ -1,4 +1,6 @@
 // Ports `parse_spec` of mod.rs; with it the end of a run of literal bytes, and what makes a format no valid one.
+#![tactic(auto)]
+
 ghost use Rattle.std.specs.Prelude.{◌≡◌, true, ◌+◌, ◌<◌, min, length, drop, get_or};
 ghost use Rattle.rules.specs.declared.Reading.TheVariants.{InFlags, InWidth, AtModifier, InColons};
 ghost use Rattle.rules.specs.declared.Turn.{Turn};
@@ -11,7 +13,7 @@ use rules::{Entry, Flag, Flags, Modifier, Offset, Options, Padding, Parsed, Piec
 use table::{is_possible, skips, spec_of};
 
 // What a byte after the percent sign makes of the options, if it is a flag.
-#[derive(Drop)]
+#[derive(Clone, Copy)]
 enum FlagStep {
     Flag(Options),
     NoFlag,

@@ -1,4 +1,6 @@
 // The plain types that every crate shares. What each means is in specs/, in the words of the precise rules.
+#![tactic(auto)]
+
 ghost use Rattle.std.specs.Prelude.{◌≡◌, ◌||◌};
 ghost use Rattle.rules.specs.Reading.{no_flags, with_flag, has_flag};
 ghost use Rattle.rules.specs.Refusal.{number_of, refusal_at};

@@ -1,5 +1,7 @@
 // Added: a format that arrives in runs (02, request 4). What is held between two calls are plain numbers; the text of the directive that is not
 // yet wholly read stands in a store that the caller lends. No call relies on what the calls before it have seen.
+#![tactic(auto)]
+
 mod checks;
 mod store;
 

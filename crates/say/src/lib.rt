@@ -1,5 +1,7 @@
 // Added to the original: what the programs say, and an answer by the refusal table of paper 01.
 // `text` and `number` go to standard output, `error` and `error_number` to standard error, and what ends in `_to` to a descriptor.
+#![tactic(auto)]
+
 mod escape;
 
 ghost use Rattle.std.specs.Prelude.{◌≡◌};

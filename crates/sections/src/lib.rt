@@ -1,4 +1,6 @@
 // The sections of a stored form (02, request 6): whether counts and bytes agree, and whether directives and steps are taken.
+#![tactic(auto)]
+
 ghost use Rattle.std.specs.Prelude.{◌≡◌, ◌+◌, ◌*◌, ◌≤◌, length, drop};
 ghost use Rattle.rules.specs.Stored.{entries_taken, steps_taken};
 ghost use Rattle.sections.specs.Counted.{Counted};
@@ -6,7 +8,7 @@ ghost use Rattle.sections.specs.Counted.{Counted};
 use codes::entry::{entry_taken, two_at};
 
 // How many literal bytes and how many directives; or that counts and bytes disagree.
-#[derive(Drop)]
+#[derive(Clone, Copy)]
 pub enum Counts {
     Agree(usize, usize),
     Disagree,

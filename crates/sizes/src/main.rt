@@ -1,4 +1,6 @@
 // Prints paper 01's sizing answers, and what each should be where it is another.
+#![tactic(auto)]
+
 ghost use Rattle.std.specs.Prelude.{◌≤◌};
 
 fn say_report(number: u64, bytes: usize) {

@@ -1,4 +1,6 @@
 // Sizing, which the original hasn't: the exact least buffer of a format.
+#![tactic(auto)]
+
 ghost use Rattle.std.specs.Prelude.{◌≡◌, true, suc, min, max};
 ghost use Rattle.rules.specs.Record.{longest_buffer, within};
 ghost use Rattle.rules.specs.Refusal.{numbered};

@@ -6,7 +6,7 @@ use crate::number::{Number, Signed, read_number, read_signed};
 use crate::usage::say_words;
 use libc::STDERR_FILENO;
 
-#[derive(Drop)]
+#[derive(Clone, Copy)]
 pub enum Asked {
     Time(i64, i32),
     Nothing,

@@ -6,7 +6,7 @@ use cursor::parsed_at;
 use rules::Parsed;
 
 // A directive, an echo or a plain byte: where it ends, and whether it is an echo.
-#[derive(Drop)]
+#[derive(Clone, Copy)]
 pub struct Item {
     pub end: usize,
     pub echoed: bool,

@@ -1,5 +1,7 @@
 // Prints the stamp that a format gives of one fixed time, or of the instant that is asked for, and the bytes that the format needs; or its
 // stored form; or where the format is refused and why.
+#![tactic(auto)]
+
 mod arguments;
 mod echoes;
 mod instant;

@@ -7,7 +7,7 @@ use libc::STDERR_FILENO;
 use rules::{Answer, Record, Refusal};
 
 // From where to where an item stands in the format.
-#[derive(Drop)]
+#[derive(Clone, Copy)]
 enum Place {
     At(usize, usize),
     Nowhere,

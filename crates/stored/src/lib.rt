@@ -1,4 +1,6 @@
 // Runs a compiled format (02, request 6): from its steps to the writers, with no parser.
+#![tactic(auto)]
+
 mod entry;
 mod literals;
 

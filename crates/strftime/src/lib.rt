@@ -1,4 +1,6 @@
 // Ports `buffered::strftime` of lib.rs: the entry.
+#![tactic(auto)]
+
 ghost use Rattle.std.specs.Prelude.{◌≡◌, min, length};
 ghost use Rattle.rules.specs.Refusal.{numbered};
 ghost use Rattle.rules.specs.Event.{reported, buffer_after};

@@ -1,4 +1,6 @@
 // Ports the table of directives of mod.rs and its checks of assert.rs, and the letters before which `E` and `O` are skipped.
+#![tactic(auto)]
+
 ghost use Rattle.std.specs.Prelude.{◌≡◌, true};
 ghost use Rattle.rules.specs.Reading.{letters, member, modified, possible_specs, rising, spec_of};
 

@@ -1,5 +1,7 @@
 // Ports write.rs, and the `SizeLimiter` of utils.rs: the leaves of the engine, which count every byte and write those that have a place in `out`.
 // A place is the bytes so far (0 to 65,536), or, once refused, how far the text came plus 131,072 times the refusal's number.
+#![tactic(auto)]
+
 ghost use Rattle.std.specs.Prelude.{◌≡◌, List, [], ◌∷◌, ◌++◌, ℕ, ◌+◌, ◌-◌, ◌/◌, ◌≤◌, ◌<◌, ltb, leb, length, take, drop, replicate};
 ghost use Rattle.rules.specs.Record.{longest_buffer};
 ghost use Rattle.rules.specs.Refusal.{number_of, ByEvent};

@@ -1,4 +1,6 @@
 // Ports the arms of `Piece::fmt` of mod.rs that print a number: which fields they check, the number, its default width and fill.
+#![tactic(auto)]
+
 ghost use Rattle.std.specs.Prelude.{◌≡◌, true, false, ◌≤◌, pos};
 ghost use Rattle.rules.specs.Week.{iso_week, week_number};
 ghost use Rattle.rules.specs.Writing.{year_width, or_if_zero, hour12};
@@ -11,7 +13,7 @@ use rules::{IsoWeek, Number, Record};
 use week::WeekStart;
 
 // What a number directive prints. `space`: its own fill is a space.
-#[derive(Drop)]
+#[derive(Clone, Copy)]
 pub struct Value {
     pub ok: bool,
     pub number: i64,

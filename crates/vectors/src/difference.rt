@@ -4,7 +4,7 @@ ghost use Rattle.std.specs.Prelude.{◌+◌, ◌≤◌, length};
 use crate::ground::{GUARD, Place, changed, other};
 use rules::Answer;
 
-#[derive(Drop)]
+#[derive(Clone, Copy)]
 pub enum Difference {
     // The line can't be read.
     Unread,
@@ -18,7 +18,7 @@ pub enum Difference {
     Behind(usize),
 }
 
-#[derive(Drop)]
+#[derive(Clone, Copy)]
 pub enum Compared {
     Same,
     Other(Difference),

@@ -5,7 +5,7 @@ ghost use Rattle.vectors.specs.Within.{PlaceWithin};
 
 pub const GUARD: usize = 64;
 
-#[derive(Drop)]
+#[derive(Clone, Copy)]
 pub enum Place {
     At(usize),
     Nowhere,

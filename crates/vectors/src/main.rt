@@ -1,4 +1,6 @@
 // Replays the stored list of the original's answers, its standard input, and prints each answer that differs.
+#![tactic(auto)]
+
 mod difference;
 mod ground;
 mod replay;

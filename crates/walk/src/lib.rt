@@ -1,4 +1,6 @@
 // Ports `TimeFormatter::fmt` of mod.rs: all of a format, item by item.
+#![tactic(auto)]
+
 ghost use Rattle.std.specs.Prelude.{◌≡◌, ◌≤◌, ◌<◌, length, get_or, drop};
 ghost use Rattle.rules.specs.Record.{longest_format};
 ghost use Rattle.rules.specs.Writing.{events_of};
@@ -18,7 +20,7 @@ use rules::{Offset, Parsed, Record};
 use text::{copy_front, is_refused, judged, put_part};
 
 // Where an item ends: the place in the text, and the position in the format.
-#[derive(Drop)]
+#[derive(Clone, Copy)]
 struct Step {
     at: usize,
     next: usize,

@@ -1,4 +1,6 @@
 // Ports week.rs: week numbers, and the week-based year and week number of ISO 8601.
+#![tactic(auto)]
+
 ghost use Rattle.std.specs.Prelude.{◌≡◌, ◌≤◌, pos};
 ghost use Rattle.rules.specs.Calendar.{is_leap, days_in};
 ghost use Rattle.rules.specs.Week.{week_number, iso_week, in_last_week, current_or_next, iso8601_year_and_week_number};
@@ -7,7 +9,7 @@ ghost use Rattle.week.specs.Inner.{original, FirstWeek, InYear, FromWeekOne, Res
 
 use rules::IsoWeek;
 
-#[derive(Drop)]
+#[derive(Clone, Copy)]
 pub enum WeekStart {
     Sunday,
     Monday,
