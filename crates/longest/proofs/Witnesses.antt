@@ -89,7 +89,7 @@ width_below : (r s : Record) → width_in Year4Digits r ≤ width_in Year4Digits
     (n : Number) → width_in n r ≤ width_in n s
 unfolding default_width value_of
 width_below r s h i n =
-    elim n [
+    elim n as (λ (n : Number). width_in n r ≤ width_in n s) [
       | Year4Digits ↦ h
       | YearDiv100 ↦ le_refl 2
       | YearRem100 ↦ le_refl 2

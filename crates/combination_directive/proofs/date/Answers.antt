@@ -1,0 +1,38 @@
+-- The fields checked, and six digits put.
+use mathlib.Core.List.{[], ◌∷◌, flatten}
+use native.Mathlib.Omega.{arith}
+use mir.Syntax.{w32}
+use mir.ValLaws.{to_z-of_z}
+use Rattle.rules.specs.declared.Combination.TheVariants.{CombinationDate}
+use Rattle.rules.specs.Record.{month, day}
+use Rattle.rules.specs.Writing.{combination_fields, combination_text}
+use Rattle.rules.proofs.FloorLaws.{mod_below}
+use Rattle.combination_directive.proofs.CombinedLaws.{judgeable, Held, held_by, failed, written}
+use borrow.Author.Rules.{rules}
+use Rattle.combination_directive.proofs.date.Goals as goal
+use Rattle.combination_directive.proofs.date.Goals.{Else-verdict-ne0}
+
+held : (c : Else-verdict-ne0) → Held (month ∷ day ∷ []) c.args.«record»
+held c = held_by c.date.ensures c.verdict-verdict.ensures c.if-verdict-ne0.false
+
+pub judged-requires : goal.judged-requires
+judged-requires c = judgeable _ c.verdict-verdict.ensures
+
+pub returns-then-verdict-ne0 : goal.returns-then-verdict-ne0
+unfolding combination_fields
+returns-then-verdict-ne0 c = λ upper. failed CombinationDate _ c.date.ensures c.verdict-verdict.ensures c.if-verdict-ne0.true c.judged.ensures
+
+pub two_digits-month-requires : goal.two_digits-month-requires
+two_digits-month-requires c = omega (arith, (held (goal.at.two_digits-month-requires c).Else-verdict-ne0).ranges-2)
+
+pub two_digits-day-requires : goal.two_digits-day-requires
+two_digits-day-requires c = omega (arith, (held (goal.at.two_digits-day-requires c).Else-verdict-ne0).ranges)
+
+pub two_digits-year-requires : goal.two_digits-year-requires
+two_digits-year-requires c = let y = c.args.«record».year in rw (c.rem_euclid_100.ensures, to_z-of_z w32 y (search rules)) (mod_below y 100 (omega arith))
+
+pub returns : goal.returns
+unfolding combination_fields combination_text flatten
+returns c =
+    let k = c in let year = rw (k.rem_euclid_100.ensures, to_z-of_z w32 k.args.«record».year (search rules)) at k.two_digits-year.ensures in
+    λ upper. written CombinationDate _ (held (goal.at.returns k).Else-verdict-ne0) (λ f e. rw (← k.two_digits-month.ensures, ← k.two_digits-day.ensures, ← year)) c.put.ensures

@@ -1,0 +1,7 @@
+-- One behind the other.
+use Rattle.text.proofs.RanLaws.{◌then◌}
+use borrow.Author.Rules.{rules}
+use Rattle.compiled.proofs.put.put_counted.Goals as goal
+
+pub returns : goal.returns
+returns c = λ limit. c.put_count-first.ensures limit then c.put_section.ensures limit

@@ -1,0 +1,8 @@
+-- `second` tests what the rule says.
+use mathlib.Core.Path.{refl}
+use Rattle.rules.specs.Record.{ok_field}
+use Rattle.fields.proofs.second.Goals as goal
+
+pub returns : goal.returns
+unfolding ok_field
+returns c = refl

@@ -1,0 +1,24 @@
+-- The check, and three digits.
+use Prim.Native.Nat.{◌<◌}
+use lib.Dec.{lit≤}
+use borrow.Author.Rules.{rules}
+use Rattle.text.proofs.JudgedLaws.{verdict_held}
+use Rattle.combination_directive.proofs.CombinedLaws.{judgeable}
+use Rattle.letters.proofs.LeafLaws.{refused, written, as_places}
+use Rattle.letters.proofs.leaves.three_or.Goals as goal
+use Rattle.letters.proofs.leaves.three_or.Goals.{Else-verdict-ne0}
+
+few : (c : Else-verdict-ne0) → c.args.v < 1000
+few c = c.requires.1 (verdict_held _ c.verdict-verdict.ensures c.if-verdict-ne0.false)
+
+pub judged-requires : goal.judged-requires
+judged-requires c = judgeable _ c.verdict-verdict.ensures
+
+pub returns-then-verdict-ne0 : goal.returns-then-verdict-ne0
+returns-then-verdict-ne0 c = refused _ _ _ _ c.verdict-verdict.ensures c.if-verdict-ne0.true c.judged.ensures
+
+pub put_places-requires : goal.put_places-requires
+put_places-requires c = c.requires.0
+
+pub returns : goal.returns
+returns c = written _ _ _ _ c.verdict-verdict.ensures c.if-verdict-ne0.false (lit≤ tt) (as_places 3 _ (few (goal.at.returns c).Else-verdict-ne0) (lit≤ tt)) c.put_places.ensures

@@ -1,0 +1,21 @@
+-- The check; of a name that is not empty the pad and the letters.
+use native.Mathlib.Omega.{arith}
+use borrow.Author.Rules.{rules}
+use Rattle.text.proofs.JudgedLaws.{verdict_small}
+use Rattle.name_directive.proofs.RunLaws.{zone_empty, zone_named}
+use Rattle.name_directive.proofs.zone_name.Goals as goal
+
+pub judged-judged-requires : goal.judged-judged-requires
+judged-judged-requires c = omega (arith, c.verdict-verdict.ensures, verdict_small c.time_zone.result)
+
+pub returns-then-length-eq0 : goal.returns-then-length-eq0
+returns-then-length-eq0 c = λ r. zone_empty _ r c.args.zone.now c.time_zone.ensures c.verdict-verdict.ensures c.if-length-eq0.true (c.judged-judged.ensures _ _ _)
+
+pub returns : goal.returns
+returns c =
+    let after-string-padding = c in let after-if1 = after-string-padding in
+    let after-judged = after-if1 in
+    let after-verdict = after-judged in
+    let after-time-zone = after-verdict in
+    let s = after-time-zone in
+    λ r. zone_named s.args.piece r s.args.zone.now after-time-zone.time_zone.ensures after-verdict.verdict-verdict.ensures after-if1.if-length-eq0.false (after-judged.judged-judged.ensures _ _ _) after-string-padding.string_padding-next.ensures (c.put_zone.ensures _)

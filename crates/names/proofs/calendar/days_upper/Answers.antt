@@ -1,0 +1,8 @@
+-- The twin is the upper case of its table, and the table is the names one after the other.
+use mathlib.Core.List.{flatten}
+use Rattle.rules.specs.Name.{day_names}
+use Rattle.names.proofs.CalendarLaws.{days_raised}
+use Rattle.names.proofs.calendar.days_upper.Goals as goal
+
+pub returns : goal.returns
+returns c = days_raised

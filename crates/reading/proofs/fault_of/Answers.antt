@@ -1,0 +1,53 @@
+-- What is left of the format has the fault of all of it.
+use mathlib.Core.Path.{◌≡◌, refl, sym, ◌∙◌}
+use Prim.Native.Nat.{◌-◌}
+use native.Mathlib.Omega.{arith}
+use lib.ListN.{length, drop}
+use borrow.Author.Rules.{rules}
+use Rattle.rules.specs.Format.{between, read, items, fault}
+use Rattle.reading.proofs.Positions.{items_at}
+use Rattle.reading.proofs.Faults.{fault_part, fault_run, fault_last}
+use Rattle.reading.proofs.fault_of.Goals as goal
+
+pub loop-at-init : goal.loop-at-init
+loop-at-init c = refl
+
+pub loop-at-smaller-in-Directive : goal.loop-at-smaller-in-Directive
+loop-at-smaller-in-Directive c =
+    let s = c in let part = (items_at _ _).percent s.loop-at-test.true s.if-format-at-eq37.true _ (sym s.parse_spec-parsed.ensures ∙ c.in-Directive.is) in
+    omega arith
+
+pub loop-at-preserved-in-Directive : goal.loop-at-preserved-in-Directive
+unfolding fault
+loop-at-preserved-in-Directive c =
+    let s = c in fault_part _ _ _ _ ((items_at _ _).percent s.loop-at-test.true s.if-format-at-eq37.true _ (sym s.parse_spec-parsed.ensures ∙ c.in-Directive.is)) refl
+    ∙ s.loop-at.invariant
+
+pub loop-at-smaller-in-Echo : goal.loop-at-smaller-in-Echo
+loop-at-smaller-in-Echo c =
+    let s = c in let part = (items_at _ _).percent s.loop-at-test.true s.if-format-at-eq37.true _ (sym s.parse_spec-parsed.ensures ∙ c.in-Echo.is) in
+    omega arith
+
+pub loop-at-preserved-in-Echo : goal.loop-at-preserved-in-Echo
+unfolding fault
+loop-at-preserved-in-Echo c =
+    let s = c in fault_part _ _ _ _ ((items_at _ _).percent s.loop-at-test.true s.if-format-at-eq37.true _ (sym s.parse_spec-parsed.ensures ∙ c.in-Echo.is)) refl
+    ∙ s.loop-at.invariant
+
+pub returns-in-Cut : goal.returns-in-Cut
+unfolding fault
+returns-in-Cut c =
+    let s = c in fault_last _ _ _ ((items_at _ _).percent s.loop-at-test.true s.if-format-at-eq37.true _ (sym s.parse_spec-parsed.ensures ∙ c.in-Cut.is))
+    ∙ s.loop-at.invariant
+
+pub loop-at-smaller : goal.loop-at-smaller
+loop-at-smaller c =
+    let part = (items_at _ _).run c.loop-at-test.true c.if-format-at-eq37.false _ c.literal_end-at.ensures in
+    omega arith
+
+pub loop-at-preserved : goal.loop-at-preserved
+loop-at-preserved c = fault_run _ _ _ ((items_at _ _).run c.loop-at-test.true c.if-format-at-eq37.false _ c.literal_end-at.ensures) ∙ c.loop-at.invariant
+
+pub returns : goal.returns
+unfolding fault
+returns c = fault_last _ _ _ ((items_at _ _).past c.loop-at-test.false) ∙ c.loop-at.invariant

@@ -1,0 +1,16 @@
+-- What is left, from the colons so far, is read as the whole is from the first.
+use mathlib.Core.Path.{◌≡◌, refl, ◌∙◌}
+use Prim.Native.Nat.{◌-◌}
+use lib.ListN.{length, drop}
+use borrow.Author.Rules.{rules}
+use Rattle.rules.specs.declared.Reading.TheVariants.{InColons}
+use Rattle.rules.specs.Reading.{open?}
+use Rattle.rules.specs.Format.{parse_from}
+use Rattle.reading.proofs.Laws.{by_turn, by_entry, at_end, colons_more, colons_offset, colons_other}
+use Rattle.reading.proofs.parse_colons.Given as goal
+
+abbrev pub invariant-loop-at : goal.invariant-loop-at
+invariant-loop-at l = parse_from (InColons l.options l.width l.colons) l.at (drop l.at l.format) ≡ parse_from (InColons l.options l.width 1) l.start (drop l.start l.format)
+
+abbrev pub decreases-loop-at : goal.decreases-loop-at
+decreases-loop-at l = length l.format - l.at

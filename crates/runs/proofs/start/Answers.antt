@@ -1,0 +1,10 @@
+-- The first check that fails.
+use lib.ListN.{length}
+use borrow.Author.Rules.{rules}
+use Rattle.rules.proofs.HeldWays.{numbers_started}
+use Rattle.runs.proofs.start.Goals as goal
+
+pub returns : goal.returns
+returns c =
+    let a = c.args in
+    numbers_started a.total (length a.zone.now) (length a.buffer.now) (length a.store.now) _ c.start_number.ensures

@@ -1,0 +1,7 @@
+-- The run laid into the part of the store behind what is kept.
+use Rattle.runs.proofs.MoveLaws.{taken_in}
+use borrow.Author.Rules.{rules}
+use Rattle.runs.proofs.store.take_in.Goals as goal
+
+pub returns : goal.returns
+returns c = taken_in c.args.kept c.args.store.now c.args.bytes.now _ c.requires c.copy_front.ensures

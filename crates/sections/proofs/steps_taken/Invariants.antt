@@ -1,0 +1,16 @@
+-- What is left of the steps answers as all of them do.
+use mathlib.Core.Path.{◌≡◌, refl, ap, ◌∙◌}
+use mathlib.Core.Logic.{⊎_elim}
+use Prim.Native.Nat.{◌+◌, ◌*◌, ◌≤◌}
+use native.Mathlib.Omega.{arith}
+use lib.ListN.{length, drop}
+use Rattle.rules.specs.Stored.{steps_taken}
+use Rattle.sections.proofs.StepLaws.{text_passes, text_next, no_section, piece_passes, piece_next, steps_end}
+use borrow.Author.Rules.{rules}
+use Rattle.sections.proofs.steps_taken.Given as goal
+
+abbrev pub invariant-loop-left : goal.invariant-loop-left
+invariant-loop-left l = (l.i + l.left * 3 ≤ length l.s) × (steps_taken l.left (drop l.i l.s) l.directives l.bytes ≡ steps_taken l.count (drop l.at l.s) l.directives l.literals)
+
+abbrev pub decreases-loop-left : goal.decreases-loop-left
+decreases-loop-left l = l.left

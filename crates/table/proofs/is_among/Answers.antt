@@ -1,0 +1,23 @@
+-- Each turn leaves the half in which alone the byte can stand.
+use Prim.Native.Nat.{◌-◌}
+use native.Mathlib.Omega.{arith}
+use borrow.Author.Rules.{rules}
+use Rattle.table.proofs.Sorted.{member_at, Between, all_between, upper_half, lower_half, nowhere}
+use Rattle.table.proofs.is_among.Goals as goal
+
+pub loop-low-init : goal.loop-low-init
+loop-low-init c = all_between _ _
+
+pub returns-then-letter-b : goal.returns-then-letter-b
+returns-then-letter-b c = member_at _ _ _ (omega arith) c.if-letter-b.true
+
+pub loop-low-preserved-then-letter-b-2 : goal.loop-low-preserved-then-letter-b-2
+loop-low-preserved-then-letter-b-2 c =
+    let s = c in upper_half _ _ _ _ s.loop-low.invariant s.requires _ (omega arith) c.if-letter-b-2.true
+
+pub loop-low-preserved : goal.loop-low-preserved
+loop-low-preserved c =
+    let s = c in lower_half _ _ _ _ s.loop-low.invariant s.requires _ (omega arith) (omega arith)
+
+pub returns : goal.returns
+returns c = nowhere _ _ _ _ c.loop-low.invariant c.loop-low-test.false

@@ -1,0 +1,25 @@
+-- `year`: the width goes by the number itself.
+use mathlib.Core.Path.{◌≡◌, ap, ◌∙◌, subst}
+use Prim.Native.Nat.{ℕ}
+use mathlib.Core.Bool.{false}
+use native.Mathlib.Omega.{arith}
+use mir.Syntax.{w64}
+use mir.ValLaws.{to_z-of_z}
+use borrow.Author.Rules.{rules}
+use Rattle.rules.specs.Writing.{year_width}
+use Rattle.rules.proofs.WidthLaws.{year_narrow}
+use Rattle.values.specs.Inner.{Valued}
+use Rattle.values.proofs.Laws.{renumbered}
+use Rattle.values.proofs.year.Goals as goal
+use Rattle.values.proofs.year.Goals.{After-year_width}
+
+width_is : (c : After-year_width) → c.year_width.result ≡ year_width c.args.year
+width_is c = c.year_width.ensures ∙ ap year_width (to_z-of_z w64 _ c.ranges.year)
+
+pub wide-requires : goal.wide-requires
+wide-requires c = omega (arith, width_is (goal.at.wide-requires c).After-year_width, year_narrow c.args.year)
+
+pub returns : goal.returns
+returns c =
+    let s = c in subst (λ (w : ℕ). Valued s.args.ok s.args.year w false c.wide.result) (width_is (goal.at.returns c).After-year_width)
+    (renumbered (to_z-of_z w64 _ s.ranges.year) c.wide.ensures)
