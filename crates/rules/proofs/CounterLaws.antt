@@ -8,7 +8,7 @@ use Prim.Native.Nat.{ℕ, ◌+◌, ◌*◌, ◌<◌, ◌≤◌}
 use native.Mathlib.Decide.{dec_lt}
 use native.Mathlib.Omega.{arith}
 use borrow.Author.Tests.{le-leb}
-use lib.Dec.{T, leb, le→leb, lit<}
+use lib.Dec.{T, le→leb, lit<}
 use lib.IntN.{ℤ, pos, negsuc, ◌+ℤ◌, ◌*ℤ◌, +ℤ-neg_ℤ_cancel}
 use lib.Signed.{mag, nat_abs-le}
 use Rattle.rules.specs.declared.Record.{Record}

@@ -15,7 +15,7 @@ use Rattle.rules.specs.Refusal.{refusal_at, Report}
 use Rattle.rules.specs.Event.{text_of, Count, at, no, reach_of, done, refused, reported, buffer_after}
 use Rattle.rules.specs.Writing.{events_of}
 use Rattle.rules.specs.Format.{between, settled, events, limit_of, format_events, formatted}
-use Rattle.rules.specs.Runs.{Call, bring, close, longest_run, Lent, Arrived, started, called, called_all, Said, more, ended, progressed, said_by, said, written, written_all, store_after, runs_of, whole, short, Held, said_in, arrived_of, lent_of, begun, held_after, held_all}
+use Rattle.rules.specs.Runs.{Call, bring, close, longest_run, Lent, Arrived, started, called, called_all, Said, more, ended, progressed, said_by, said, written_all, store_after, runs_of, whole, short, Held, said_in, arrived_of, lent_of, begun, held_after, held_all}
 use Rattle.rules.proofs.OneAnswer.{refusal_at_lem}
 use Rattle.rules.proofs.EarlyLaws.{Fails}
 use Rattle.rules.proofs.CallLaws as calls

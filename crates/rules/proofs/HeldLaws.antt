@@ -12,7 +12,7 @@ use Rattle.rules.specs.declared.Record.{Record}
 use Rattle.rules.specs.Refusal.{number_of, refusal_at}
 use Rattle.rules.specs.Event.{check, Count, at, no, reach_of, number_in, Holds}
 use Rattle.rules.specs.Format.{inputs, limit_of}
-use Rattle.rules.specs.Runs.{Call, bring, close, Lent, Arrived, limit_for, started, checks, brought, found, rest, added, called, called_all, written, written_all, store_by, store_after, Held, count_by, arrived_of, lent_of, begun, held_after, held_all}
+use Rattle.rules.specs.Runs.{Call, bring, close, Lent, Arrived, limit_for, started, checks, brought, found, rest, added, called, called_all, written_all, store_by, store_after, Held, count_by, arrived_of, lent_of, begun, held_after, held_all}
 use Rattle.rules.proofs.FormatLaws.{Numbered, CountOk, numbered_items, tally_ok}
 use Rattle.rules.proofs.OneAnswer.{OfTable, number_known, event_number}
 use Rattle.rules.proofs.PendingLaws.{pending_fits}

@@ -1,5 +1,5 @@
 -- Numbers as text, and the floor quotient and remainder (01, "Writing a directive": "Numbers" and "`C` and `y`").
-use Rattle.std.specs.Prelude.{Bool, true, false, List, [], ◌∷◌, ◌++◌, ℕ, zero, suc, ◌+◌, ◌-◌, ◌/◌, ◌%◌, ltb, length, replicate, ℤ, pos, negsuc, nat_abs}
+use Rattle.std.specs.Prelude.{true, false, List, [], ◌∷◌, ◌++◌, ℕ, zero, suc, ◌+◌, ◌-◌, ◌/◌, ◌%◌, ltb, length, replicate, ℤ, pos, negsuc, nat_abs}
 use Rattle.rules.specs.Ascii.{byte, ascii}
 
 -- the decimal digits of n, at most `fuel` of them

@@ -1,5 +1,5 @@
 -- Events (01, "Refusal table"): what a format does from left to right, the text that it writes, and the first event that fails.
-use Rattle.std.specs.Prelude.{◌≡◌, Bool, true, false, cond, ◌||◌, List, [], ◌∷◌, ◌++◌, ℕ, ◌+◌, leb, eqb, length, replicate, drop}
+use Rattle.std.specs.Prelude.{◌≡◌, Bool, true, cond, ◌||◌, List, [], ◌∷◌, ◌++◌, ℕ, ◌+◌, leb, eqb, length, replicate, drop}
 use Rattle.rules.specs.Refusal.{Report}
 
 -- "write bytes, pad": some bytes; or one byte, so many times, by `SizeLimiter::pad`

@@ -1,5 +1,5 @@
 -- The names of days and months, and letters' case (01, "Writing a directive": "Names").
-use Rattle.std.specs.Prelude.{Bool, true, false, cond, ◌&&◌, ◌||◌, List, [], ◌∷◌, map, ℕ, ◌+◌, ◌-◌, ltb, leb, get_or, take}
+use Rattle.std.specs.Prelude.{cond, ◌&&◌, ◌||◌, List, [], ◌∷◌, map, ℕ, ◌+◌, ◌-◌, ltb, leb, get_or, take}
 use Rattle.rules.specs.declared.Record.{Record}
 use Rattle.rules.specs.declared.Flags.{Flags}
 use Rattle.rules.specs.declared.Name.{Name}

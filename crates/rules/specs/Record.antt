@@ -1,5 +1,5 @@
 -- The record, the longest inputs and the ranges (01, "What is bought" and "Writing a directive").
-use Rattle.std.specs.Prelude.{Bool, true, false, ◌&&◌, List, [], ◌∷◌, ℕ, ◌<◌, T, leb, ℤ}
+use Rattle.std.specs.Prelude.{Bool, true, ◌&&◌, List, [], ◌∷◌, ℕ, ◌<◌, T, leb, ℤ}
 use Rattle.std.specs.Int.Signed.{mag}
 use Rattle.rules.specs.declared.Record.{Record}
 use Rattle.rules.specs.Calendar.{days_in}

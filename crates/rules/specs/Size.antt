@@ -1,5 +1,5 @@
 -- What the size of a format is, over any set of records and zone names (01, "Refusal table", sizing; the tender's third demand).
-use Rattle.std.specs.Prelude.{◌≡◌, Bool, true, false, List, ◌⊎◌, ℕ, suc, ◌≤◌, ◌<◌, length}
+use Rattle.std.specs.Prelude.{◌≡◌, List, ◌⊎◌, ℕ, suc, ◌≤◌, ◌<◌, length}
 use Rattle.rules.specs.declared.Record.{Record}
 use Rattle.rules.specs.Record.{InI32, InI64, InRange, longest_format, longest_zone, longest_buffer}
 use Rattle.rules.specs.Refusal.{Report}

@@ -1,5 +1,5 @@
 -- Writing a directive (01, "Writing a directive"): what it pads before the check, the fields that it checks, what it writes.
-use Rattle.std.specs.Prelude.{Bool, true, false, cond, ℕ, zero, suc, ◌+◌, ◌-◌, ◌/◌, ◌%◌, ◌^◌, min, eqb, length, ℤ, pos, negsuc}
+use Rattle.std.specs.Prelude.{Bool, true, false, cond, ℕ, ◌+◌, ◌-◌, ◌/◌, ◌%◌, ◌^◌, min, eqb, length, ℤ, pos, negsuc}
 use mathlib.Core.List.{List, [], ◌∷◌, ◌++◌, map, flatten}
 use Rattle.rules.specs.declared.Record.{Record}
 use Rattle.rules.specs.declared.Flags.{Flags}
@@ -23,7 +23,7 @@ use Rattle.rules.specs.declared.Piece.{Piece}
 use Rattle.rules.specs.Ascii.{byte, ascii}
 use Rattle.rules.specs.Record.{Field, month, day, hour, minute, second, nanoseconds, weekday, day_of_year, zone_name, all_ok}
 use Rattle.rules.specs.Event.{Write, put, pad, Event, write, judged}
-use Rattle.rules.specs.Decimal.{digits, places, two, decimal_text, Fill, zeros, spaces, fill_byte, filled, floor_div, floor_mod}
+use Rattle.rules.specs.Decimal.{places, two, decimal_text, Fill, zeros, spaces, fill_byte, filled, floor_div, floor_mod}
 use Rattle.rules.specs.Name.{day_name, month_name, abbreviated, Case, as_it_is, raised, in_case, before12, name_of, case_of, zone_case}
 use Rattle.rules.specs.Week.{week_number, iso_week}
 use Rattle.rules.specs.Offset.{minus, form_of, offset_writes}
