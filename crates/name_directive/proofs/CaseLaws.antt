@@ -8,7 +8,7 @@ use borrow.Author.Tests.{lt-leb}
 use lib.Dec.{leb}
 use lib.ListN.{length, get_or, set, take, length-map}
 use Rattle.rules.specs.declared.Flags.{Flags}
-use Rattle.rules.specs.Name.{upper, in_case, zone_case}
+use Rattle.rules.specs.Name.{in_case, zone_case}
 use Rattle.rules.specs.Record.{within}
 use Rattle.text.proofs.OverlayLaws.{Laid, laid_more}
 use Rattle.fields.proofs.Laws.{least_held, least_failed}

@@ -1,12 +1,9 @@
 -- The letters of a name by its number: they are the name in its case, and so many; a checked field has a name.
 use mathlib.Core.Path.{◌≡◌, refl, sym, ap, subst, ◌∙◌}
 use mathlib.Core.Bool.{Bool, true, false, cond, not, ◌||◌, or_comm}
-use mathlib.Core.Logic.{inl, inr}
-use mathlib.Core.List.{List, [], ◌∷◌}
+use mathlib.Core.Logic.{◌⊎◌, inl, inr}
+use mathlib.Core.List.{List, []}
 use Prim.Native.Nat.{ℕ, ◌≤◌}
-use native.Mathlib.Omega.{arith}
-use denote.Enum.Declared.{tag_of}
-use types.Run.{OneOf}
 use lib.Dec.{ltb}
 use lib.ListN.{length}
 use Rattle.rules.specs.declared.Flags.{Flags}
@@ -17,7 +14,6 @@ use Rattle.rules.specs.Ascii.{ascii}
 use Rattle.rules.specs.Name.{day_name, month_name, abbreviated, upper, lower, as_it_is, raised, lowered, in_case, before12, name_of, case_of}
 use Rattle.rules.specs.Record.{all_ok}
 use Rattle.rules.specs.Writing.{name_fields}
-use Rattle.rules.specs.contracts.Name.{the_type}
 use Rattle.rules.proofs.RecordLaws.{Each, ranges_of}
 use Rattle.names.specs.Calendar.{case_by, unpacked}
 use Rattle.names.proofs.CalendarLaws.{day_spelled, month_spelled}
@@ -31,19 +27,11 @@ known f e h = h ∙ ap f (sym e)
 pub named_as : (k : ℕ) {n m : Name} → n ≡ m → Named n k → Named m k
 named_as k e h = subst (λ (x : Name). Named x k) e h
 
--- one of the two that share an arm, by their places among the names
-pub either_meridian : (capital : Bool) (k : ℕ) (n : Name) → OneOf (2 ∷ 3 ∷ []) (tag_of the_type n) → meridian_text capital k ≡ letters_of n capital k
+-- one of the two that share an arm
+pub either_meridian : (capital : Bool) (k : ℕ) {n : Name} → (n ≡ MeridianLower) ⊎ (n ≡ MeridianUpper) → meridian_text capital k ≡ letters_of n capital k
 unfolding letters_of
-either_meridian capital k MonthName (inl e) = absurd (omega arith)
-either_meridian capital k MonthName (inr e) = absurd (omega arith)
-either_meridian capital k MonthNameAbbr (inl e) = absurd (omega arith)
-either_meridian capital k MonthNameAbbr (inr e) = absurd (omega arith)
-either_meridian capital k MeridianLower h = refl
-either_meridian capital k MeridianUpper h = refl
-either_meridian capital k WeekDayName (inl e) = absurd (omega arith)
-either_meridian capital k WeekDayName (inr e) = absurd (omega arith)
-either_meridian capital k WeekDayNameAbbr (inl e) = absurd (omega arith)
-either_meridian capital k WeekDayNameAbbr (inr e) = absurd (omega arith)
+either_meridian capital k (inl e) = known (λ (n : Name). letters_of n capital k) e refl
+either_meridian capital k (inr e) = known (λ (n : Name). letters_of n capital k) e refl
 
 -- ## Case
 

@@ -148,12 +148,16 @@ pub fn plain_name(out: &mut [u8], at: usize, room: usize, name: Name, record: Re
     put_name(out, at, room, name, number, in_capitals(name, Flags::new()))
 }
 
+// A capital is below Z and 32 more; any other byte stays.
+#[tactic(auto, unfolding(rules::specs::Name::lower))]
 fn lower(b: u8) -> u8
     ensures { result ≡ letter.lower b }
 {
     if b'A' <= b && b <= b'Z' { b + 32 } else { b }
 }
 
+// A small letter is 32 less; any other byte stays.
+#[tactic(auto, unfolding(rules::specs::Name::upper))]
 fn upper(b: u8) -> u8
     ensures { result ≡ letter.upper b }
 {

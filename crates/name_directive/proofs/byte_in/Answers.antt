@@ -1,5 +1,4 @@
 -- The letter in the case that is asked for.
-use borrow.Author.Rules.{rules}
 use Rattle.name_directive.proofs.byte_in.Goals as goal
 
 pub returns-then-lowered : goal.returns-then-lowered

@@ -1,12 +1,9 @@
 -- After i turns the first i bytes lie over out, each in its case.
 use mathlib.Core.List.{map}
 use Prim.Native.Nat.{◌-◌, ◌≤◌}
-use native.Mathlib.Omega.{arith}
-use borrow.Author.Rules.{rules}
-use lib.ListN.{length, length-map}
-use Rattle.text.proofs.OverlayLaws.{Laid, laid_none, laid_all}
+use lib.ListN.{length}
+use Rattle.text.proofs.OverlayLaws.{Laid}
 use Rattle.name_directive.specs.Named.{byte_in}
-use Rattle.name_directive.proofs.CaseLaws.{laid_through}
 use Rattle.name_directive.proofs.copy_cased.Given as goal
 
 abbrev pub invariant-loop-i : goal.invariant-loop-i

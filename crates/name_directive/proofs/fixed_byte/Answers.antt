@@ -1,7 +1,6 @@
 -- Each arm is its byte.
 use mathlib.Core.Path.{sym, ap}
 use Rattle.rules.specs.Writing.{fixed_byte}
-use borrow.Author.Rules.{rules}
 use Rattle.name_directive.proofs.fixed_byte.Goals as goal
 
 pub returns-in-Newline : goal.returns-in-Newline

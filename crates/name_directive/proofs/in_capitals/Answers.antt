@@ -4,7 +4,6 @@ use mathlib.Core.Bool.{not}
 use Rattle.rules.specs.declared.Name.{Name}
 use Rattle.name_directive.specs.Named.{capitals}
 use Rattle.name_directive.proofs.LetterLaws.{known}
-use borrow.Author.Rules.{rules}
 use Rattle.name_directive.proofs.in_capitals.Goals as goal
 
 pub returns-in-MonthName : goal.returns-in-MonthName

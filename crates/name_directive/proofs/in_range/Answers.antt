@@ -4,7 +4,6 @@ use Rattle.rules.specs.Record.{month, hour, weekday, all_ok}
 use Rattle.rules.specs.Writing.{name_fields}
 use Rattle.fields.proofs.Laws.{alone}
 use Rattle.name_directive.proofs.LetterLaws.{known}
-use borrow.Author.Rules.{rules}
 use Rattle.name_directive.proofs.in_range.Goals as goal
 
 pub returns-in-MonthName : goal.returns-in-MonthName

@@ -5,7 +5,6 @@ use Rattle.rules.specs.declared.Name.{Name}
 use Rattle.rules.proofs.WidthLaws.{length_cased}
 use Rattle.name_directive.specs.Named.{Named, letters_of}
 use Rattle.name_directive.proofs.LetterLaws.{known, named_as, month_letters, day_letters, meridian_letters}
-use borrow.Author.Rules.{rules}
 use Rattle.name_directive.proofs.name_length.Goals as goal
 
 pub month_length-requires : goal.month_length-requires

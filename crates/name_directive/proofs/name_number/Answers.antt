@@ -3,7 +3,6 @@ use mathlib.Core.Path.{refl}
 use Rattle.rules.specs.declared.Name.{Name}
 use Rattle.name_directive.specs.Named.{name_number}
 use Rattle.name_directive.proofs.LetterLaws.{known}
-use borrow.Author.Rules.{rules}
 use Rattle.name_directive.proofs.name_number.Goals as goal
 
 pub returns-in-MonthName : goal.returns-in-MonthName

@@ -1,6 +1,5 @@
 -- The byte alone.
 use Rattle.name_directive.proofs.RunLaws.{plain_fixed_written}
-use borrow.Author.Rules.{rules}
 use Rattle.name_directive.proofs.plain_fixed.Goals as goal
 
 pub returns : goal.returns

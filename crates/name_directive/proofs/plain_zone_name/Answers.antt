@@ -1,6 +1,5 @@
 -- The check, and the name as it is.
 use native.Mathlib.Omega.{arith}
-use borrow.Author.Rules.{rules}
 use Rattle.text.proofs.JudgedLaws.{verdict_small}
 use Rattle.name_directive.proofs.RunLaws.{zone_empty, plain_zone_named}
 use Rattle.name_directive.proofs.plain_zone_name.Goals as goal
@@ -13,8 +12,4 @@ returns-then-zone-eq0 c = λ limit r. zone_empty _ r c.args.zone.now c.time_zone
 
 pub returns : goal.returns
 returns c =
-    let after-if1 = c in let after-judged = after-if1 in
-    let after-verdict = after-judged in
-    let after-time-zone = after-verdict in
-    let s = after-time-zone in
-    λ limit r. plain_zone_named r s.args.zone.now after-time-zone.time_zone.ensures after-verdict.verdict-verdict.ensures after-if1.if-zone-eq0.false (after-judged.judged-judged.ensures _ _ _) (c.put_slice.ensures limit)
+    λ limit r. plain_zone_named r c.args.zone.now c.time_zone.ensures c.verdict-verdict.ensures c.if-zone-eq0.false (c.judged-judged.ensures _ _ _) (c.put_slice.ensures limit)

@@ -4,10 +4,8 @@ use Rattle.rules.specs.declared.Name.{Name}
 use Rattle.text.proofs.RanLaws.{said}
 use Rattle.name_directive.specs.Named.{Named, letters_of}
 use Rattle.name_directive.proofs.LetterLaws.{known, named_as, either_meridian}
-use borrow.Author.Rules.{rules}
 use Rattle.name_directive.proofs.put_name.Goals as goal
 
--- LOOK field match: ['in-MeridianLower', 'in-MonthName', 'in-MonthNameAbbr', 'in-WeekDayName', 'in-WeekDayNameAbbr']
 pub put_month-requires : goal.put_month-requires
 unfolding Named
 put_month-requires c =
@@ -41,7 +39,7 @@ returns-in-MonthNameAbbr c =
 pub returns-in-MeridianLower : goal.returns-in-MeridianLower
 returns-in-MeridianLower c =
     let a = c.args in
-    λ limit. said (either_meridian a.capital a.number a.name c.in-MeridianLower.keys3) (c.put_meridian.ensures limit)
+    λ limit. said (either_meridian a.capital a.number c.in-MeridianLower.is) (c.put_meridian.ensures limit)
 
 pub returns-in-WeekDayName : goal.returns-in-WeekDayName
 unfolding letters_of

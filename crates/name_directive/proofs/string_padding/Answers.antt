@@ -1,6 +1,5 @@
 -- With the left flag nothing, else the pad to the width.
 use mathlib.Core.Path.{sym, ◌∙◌}
-use borrow.Author.Rules.{rules}
 use Rattle.name_directive.proofs.RunLaws.{unpadded, padded}
 use Rattle.name_directive.proofs.string_padding.Goals as goal
 

@@ -1,6 +1,5 @@
 -- The check; of a name that is not empty the pad and the letters.
 use native.Mathlib.Omega.{arith}
-use borrow.Author.Rules.{rules}
 use Rattle.text.proofs.JudgedLaws.{verdict_small}
 use Rattle.name_directive.proofs.RunLaws.{zone_empty, zone_named}
 use Rattle.name_directive.proofs.zone_name.Goals as goal
@@ -13,9 +12,4 @@ returns-then-length-eq0 c = λ r. zone_empty _ r c.args.zone.now c.time_zone.ens
 
 pub returns : goal.returns
 returns c =
-    let after-string-padding = c in let after-if1 = after-string-padding in
-    let after-judged = after-if1 in
-    let after-verdict = after-judged in
-    let after-time-zone = after-verdict in
-    let s = after-time-zone in
-    λ r. zone_named s.args.piece r s.args.zone.now after-time-zone.time_zone.ensures after-verdict.verdict-verdict.ensures after-if1.if-length-eq0.false (after-judged.judged-judged.ensures _ _ _) after-string-padding.string_padding-next.ensures (c.put_zone.ensures _)
+    λ r. zone_named c.args.piece r c.args.zone.now c.time_zone.ensures c.verdict-verdict.ensures c.if-length-eq0.false (c.judged-judged.ensures _ _ _) c.string_padding-next.ensures (c.put_zone.ensures _)

@@ -2,7 +2,6 @@
 use mathlib.Core.Path.{sym, ap, ◌∙◌}
 use Rattle.values.specs.Value.{fill_by}
 use Rattle.number_directive.proofs.NumberLaws.{own_fill, always_spaces, always_zeros}
-use borrow.Author.Rules.{rules}
 use Rattle.number_directive.proofs.fills_zeros.Goals as goal
 
 pub returns-in-Left : goal.returns-in-Left

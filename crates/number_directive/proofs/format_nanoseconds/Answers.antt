@@ -11,7 +11,7 @@ overflow_cast-value c = quotient_fits _ _ (search rules)
 
 pub returns-then-width-le9 : goal.returns-then-width-le9
 returns-then-width-le9 c =
-    let after-power = c in nine_or_fewer _ _ after-power.if-width-le9.true after-power.power.ensures (c.put_places.ensures _)
+    nine_or_fewer _ _ c.if-width-le9.true c.power.ensures (c.put_places.ensures _)
 
 pub returns : goal.returns
 returns c = more_than_nine _ _ c.if-width-le9.false (c.put_places-next.ensures _) c.pad.ensures

@@ -1,8 +1,5 @@
 -- The check, then the digits.
-use mathlib.Core.List.{List}
-use Prim.Native.Nat.{ℕ}
 use native.Mathlib.Omega.{arith}
-use borrow.Author.Rules.{rules}
 use Rattle.rules.specs.declared.Spec.TheVariants.{Fraction as fraction}
 use Rattle.rules.specs.Record.{nanoseconds}
 use Rattle.rules.specs.Writing.{fields_of}

@@ -1,7 +1,6 @@
 -- One number for each of the two.
 use mathlib.Core.Path.{sym, ap}
 use Rattle.rules.specs.Writing.{fraction_digits}
-use borrow.Author.Rules.{rules}
 use Rattle.number_directive.proofs.fraction_digits.Goals as goal
 
 pub returns-in-MilliSecond : goal.returns-in-MilliSecond

@@ -1,5 +1,4 @@
 -- The word of the case that is asked for.
-use borrow.Author.Rules.{rules}
 use Rattle.names.specs.Calendar.{cased_word}
 use Rattle.names.proofs.calendar.cased_word.Goals as goal
 

@@ -2,7 +2,6 @@
 use mathlib.Core.Bool.{false}
 use mathlib.Core.Path.{refl}
 use mathlib.Core.List.{flatten}
-use borrow.Author.Rules.{rules}
 use Rattle.rules.specs.Name.{day_names, day_name, in_case}
 use Rattle.names.proofs.CalendarLaws.{Cut, cut_length, day_part}
 use Rattle.names.proofs.calendar.day_length.Goals as goal

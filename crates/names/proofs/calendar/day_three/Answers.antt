@@ -1,5 +1,4 @@
 -- The packed word is the name's letters, as they are and raised.
-use borrow.Author.Rules.{rules}
 use mathlib.Core.Path.{◌∙◌, ap}
 use Rattle.names.specs.Calendar.{unpacked}
 use Rattle.names.proofs.CalendarLaws.{day_spelled}
@@ -10,4 +9,4 @@ cased_word-requires c = (day_spelled c.args.upper c.requires c.day_word.ensures)
 
 pub returns : goal.returns
 returns c =
-    let b = c in c.letters.ensures ∙ ap unpacked c.cased_word.ensures ∙ (day_spelled b.args.upper b.requires b.day_word.ensures).1
+    c.letters.ensures ∙ ap unpacked c.cased_word.ensures ∙ (day_spelled c.args.upper c.requires c.day_word.ensures).1

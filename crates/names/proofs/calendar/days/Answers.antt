@@ -5,4 +5,5 @@ use Rattle.rules.specs.Name.{day_names}
 use Rattle.names.proofs.calendar.days.Goals as goal
 
 pub returns : goal.returns
+unfolding day_names flatten
 returns c = refl

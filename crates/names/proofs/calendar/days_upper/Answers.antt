@@ -5,4 +5,5 @@ use Rattle.names.proofs.CalendarLaws.{days_raised}
 use Rattle.names.proofs.calendar.days_upper.Goals as goal
 
 pub returns : goal.returns
+unfolding day_names flatten
 returns c = days_raised

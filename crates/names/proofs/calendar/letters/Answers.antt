@@ -1,5 +1,4 @@
 -- The three bytes of the word.
-use borrow.Author.Rules.{rules}
 use mathlib.Core.Path.{refl}
 use Rattle.names.specs.Calendar.{unpacked}
 use Rattle.names.proofs.calendar.letters.Goals as goal

@@ -2,7 +2,6 @@
 use mathlib.Core.Bool.{false}
 use mathlib.Core.Path.{refl}
 use mathlib.Core.List.{flatten}
-use borrow.Author.Rules.{rules}
 use Rattle.rules.specs.Name.{month_names, month_name, in_case}
 use Rattle.names.proofs.CalendarLaws.{Cut, cut_length, month_part}
 use Rattle.names.proofs.calendar.month_length.Goals as goal

@@ -5,4 +5,5 @@ use Rattle.rules.specs.Name.{month_names}
 use Rattle.names.proofs.calendar.months.Goals as goal
 
 pub returns : goal.returns
+unfolding month_names flatten
 returns c = refl

@@ -5,4 +5,5 @@ use Rattle.names.proofs.CalendarLaws.{months_raised}
 use Rattle.names.proofs.calendar.months_upper.Goals as goal
 
 pub returns : goal.returns
+unfolding month_names flatten
 returns c = months_raised

@@ -1,30 +1,17 @@
 -- The part of either table between the two places is the name in that table's case.
-use mathlib.Core.Path.{◌≡◌}
-use mathlib.Core.List.{List, flatten}
-use Prim.Native.Nat.{ℕ}
 use borrow.Author.Rules.{rules}
 use Rattle.rules.specs.Name.{day_names, day_name, in_case}
 use Rattle.text.proofs.RanLaws.{said}
 use Rattle.names.specs.Calendar.{case_by}
 use Rattle.names.proofs.CalendarLaws.{Cut, day_part, raised_table, plain_table}
 use Rattle.names.proofs.calendar.put_day.Goals as goal
-use Rattle.names.proofs.calendar.put_day.Goals.{After-day_start-end, After-days-table, After-days_upper-table}
+use Rattle.names.proofs.calendar.put_day.Goals.{After-days-table, After-days_upper-table}
 
-module _ (c : After-day_start-end) where
-  abbrev Part : List ℕ → Type 0
-  Part table =
-      let args = c.args in
-      Cut table c.day_start-from.result c.day_start-end.result (in_case (case_by args.upper) (day_name args.day))
+raised_part : (c : After-days_upper-table) → Cut c.days_upper-table.result c.day_start-from.result c.day_start-end.result (in_case (case_by c.args.upper) (day_name c.args.day))
+raised_part c = day_part c.args.upper c.requires.1 (raised_table day_names c.if-upper.true c.days_upper-table.ensures) c.day_start-from.ensures c.day_start-end.ensures
 
-  part : {table : List ℕ} → table ≡ in_case (case_by c.args.upper) (flatten day_names) → Part table
-  part t =
-      let start = c in day_part start.args.upper start.requires.1 t c.day_start-from.ensures c.day_start-end.ensures
-
-raised_part : (c : After-days_upper-table) → Part c c.days_upper-table.result
-raised_part c = part c (raised_table day_names c.if-upper.true c.days_upper-table.ensures)
-
-plain_part : (c : After-days-table) → Part c c.days-table.result
-plain_part c = part c (plain_table day_names c.if-upper.false c.days-table.ensures)
+plain_part : (c : After-days-table) → Cut c.days-table.result c.day_start-from.result c.day_start-end.result (in_case (case_by c.args.upper) (day_name c.args.day))
+plain_part c = day_part c.args.upper c.requires.1 (plain_table day_names c.if-upper.false c.days-table.ensures) c.day_start-from.ensures c.day_start-end.ensures
 
 pub put_part-requires : goal.put_part-requires
 put_part-requires c =

@@ -1,5 +1,4 @@
 -- The two letters are put.
-use borrow.Author.Rules.{rules}
 use Rattle.text.proofs.RanLaws.{said}
 use Rattle.names.proofs.calendar.put_meridian.Goals as goal
 
