@@ -6,13 +6,9 @@ use mathlib.Core.Logic.{inl, inr}
 use Prim.Native.Nat.{ℕ, ◌≤◌}
 use native.Mathlib.Omega.{arith}
 use lib.IntN.{ℤ}
-use types.Run.{OneOf, miss}
-use denote.Enum.Declared.{tag_of}
-use borrow.Enum.Known.{lives_at}
 use borrow.Author.Tests.{eq-eqb, ne_eqb}
-use Rattle.rules.specs.contracts.Number.{enum, the_type}
 use Rattle.rules.specs.declared.Number.{Number}
-use Rattle.rules.specs.declared.Number.TheVariants.{WeekNumberIso8601}
+use Rattle.rules.specs.declared.Number.TheVariants.{YearIso8601, YearIso8601Rem100, WeekNumberIso8601}
 use Rattle.rules.specs.declared.Padding.{Padding}
 use Rattle.rules.specs.declared.Record.{Record}
 use Rattle.rules.specs.Record.{Field, ok_field, all_ok, weekday, day_of_year}
@@ -33,21 +29,12 @@ is_zero other n h = rw (eq-eqb n 0 h)
 pub not_zero : (other n : ℕ) → (n ≡ 0 → ⊥) → n ≡ or_if_zero other n
 not_zero other n h = rw (ne_eqb n 0 h)
 
--- ## The numbers of the ISO week, by their places among the numbers
+-- ## The numbers of the ISO week
 
-pub of_iso_week : (n : Number) → OneOf (15 ∷ 16 ∷ 17 ∷ []) (tag_of the_type n) → OfIsoWeek n
-of_iso_week n (inl e) = inl (lives_at enum n 15 e).1
-of_iso_week n (inr (inl e)) = inr (inl (lives_at enum n 16 e).1)
-of_iso_week n (inr (inr e)) = inr (inr (lives_at enum n 17 e).1)
-
--- the places of all but the first two of them
-abbrev rest : List ℕ
-rest = 0 ∷ 1 ∷ 2 ∷ 3 ∷ 4 ∷ 5 ∷ 6 ∷ 7 ∷ 8 ∷ 9 ∷ 10 ∷ 11 ∷ 12 ∷ 13 ∷ 14 ∷ 17 ∷ 18 ∷ 19 ∷ 20 ∷ []
-
-pub last_of_three : (n : Number) → OneOf rest (tag_of the_type n) → OfIsoWeek n → n ≡ WeekNumberIso8601
-last_of_three n k (inl e) = absurd (miss rest 15 tt (subst (λ (m : Number). OneOf rest (tag_of the_type m)) e k))
-last_of_three n k (inr (inl e)) = absurd (miss rest 16 tt (subst (λ (m : Number). OneOf rest (tag_of the_type m)) e k))
-last_of_three n k (inr (inr e)) = e
+pub last_of_three : {n : Number} → (n ≡ YearIso8601 → ⊥) → (n ≡ YearIso8601Rem100 → ⊥) → OfIsoWeek n → n ≡ WeekNumberIso8601
+last_of_three a b (inl e) = absurd (a e)
+last_of_three a b (inr (inl e)) = absurd (b e)
+last_of_three a b (inr (inr e)) = e
 
 -- ## Fields in range
 

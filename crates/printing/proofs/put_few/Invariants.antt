@@ -1,11 +1,6 @@
 -- After i turns those of the first i bytes that have a place lie over out.
-use Rattle.std.specs.Prelude.{◌≡◌, ◌-◌, ◌≤◌, length}
-use mathlib.Core.Path.{refl, sym, ap, ◌∙◌}
-use mathlib.Core.Logic.{⊎_elim}
-use native.Mathlib.Omega.{arith}
-use Rattle.text.specs.Overlay.{overlay}
-use Rattle.text.proofs.OverlayLaws.{length_overlay, overlay_past, Laid, laid_none, laid_more, laid_past, laid_all}
-use borrow.Author.Rules.{rules}
+use Rattle.std.specs.Prelude.{◌-◌, ◌≤◌, length}
+use Rattle.text.proofs.OverlayLaws.{Laid}
 use Rattle.printing.proofs.put_few.Given as goal
 
 abbrev pub invariant-loop-i : goal.invariant-loop-i

@@ -5,21 +5,11 @@ use mir.ValLaws.{to_z-of_z}
 use Rattle.rules.specs.Writing.{year_width}
 use Rattle.text.proofs.RanLaws.{said}
 use Rattle.printing.proofs.FilledLaws.{year_filled}
-use Rattle.printing.proofs.YearLaws.{four_cast, four_below, four_text}
-use borrow.Author.Rules.{rules}
+use Rattle.printing.proofs.YearLaws.{four_text}
 use Rattle.printing.proofs.put_year.Goals as goal
 
--- LOOK field if1: ['else-year-ge0', 'if-year-ge0']
--- LOOK field if1: ['else-year-ge0', 'if-year-ge0']
--- LOOK field if1: ['else-year-ge0', 'if-year-ge0']
-pub overflow_cast-year : goal.overflow_cast-year
-overflow_cast-year c = four_cast c.ranges.year c.else-year-ge0.true c.if-year-lt10000.true
-
-pub put_four-requires : goal.put_four-requires
-put_four-requires c = (c.requires, four_below c.ranges.year c.else-year-ge0.true c.if-year-lt10000.true)
-
 pub returns-then-year-lt10000 : goal.returns-then-year-lt10000
-returns-then-year-lt10000 c = λ limit. said (four_text c.ranges.year c.else-year-ge0.true c.if-year-lt10000.true) (c.put_four.ensures limit)
+returns-then-year-lt10000 c = λ limit. said (four_text c.ranges.year c.if-year-ge0.true c.if-year-lt10000.true) (c.put_four.ensures limit)
 
 pub returns : goal.returns
 returns c =

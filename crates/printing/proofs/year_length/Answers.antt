@@ -5,7 +5,6 @@ use Rattle.rules.specs.Decimal.{decimal_text, zeros}
 use Rattle.rules.proofs.DecimalLaws.{length_text_to, length_filled}
 use Rattle.numbers.proofs.Signed.{widens, widened}
 use Rattle.printing.proofs.WriteLaws.{place_after}
-use borrow.Author.Rules.{rules}
 use Rattle.printing.proofs.year_length.Goals as goal
 use Rattle.printing.proofs.year_length.Goals.{After-put_decimal-length}
 

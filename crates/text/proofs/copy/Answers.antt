@@ -1,9 +1,6 @@
 -- After i turns the first i bytes of src lie over out.
-use Prim.Native.Nat.{◌-◌, ◌≤◌}
 use native.Mathlib.Omega.{arith}
-use borrow.Author.Rules.{rules}
-use lib.ListN.{length}
-use Rattle.text.proofs.OverlayLaws.{Laid, laid_none, laid_more, laid_all}
+use Rattle.text.proofs.OverlayLaws.{laid_none, laid_more, laid_all}
 use Rattle.text.proofs.copy.Goals as goal
 
 pub loop-i-init : goal.loop-i-init

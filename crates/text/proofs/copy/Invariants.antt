@@ -1,9 +1,7 @@
 -- After i turns the first i bytes of src lie over out.
 use Prim.Native.Nat.{◌-◌, ◌≤◌}
-use native.Mathlib.Omega.{arith}
-use borrow.Author.Rules.{rules}
 use lib.ListN.{length}
-use Rattle.text.proofs.OverlayLaws.{Laid, laid_none, laid_more, laid_all}
+use Rattle.text.proofs.OverlayLaws.{Laid}
 use Rattle.text.proofs.copy.Given as goal
 
 abbrev pub invariant-loop-i : goal.invariant-loop-i

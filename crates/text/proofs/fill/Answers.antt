@@ -1,9 +1,7 @@
 -- After j turns j bytes of the run lie over out.
-use Prim.Native.Nat.{◌-◌, ◌≤◌}
 use native.Mathlib.Omega.{arith}
-use borrow.Author.Rules.{rules}
-use lib.ListN.{replicate, length-replicate}
-use Rattle.text.proofs.OverlayLaws.{Laid, laid_none, laid_again, laid_all}
+use lib.ListN.{length-replicate}
+use Rattle.text.proofs.OverlayLaws.{laid_none, laid_again, laid_all}
 use Rattle.text.proofs.fill.Goals as goal
 
 pub loop-j-init : goal.loop-j-init

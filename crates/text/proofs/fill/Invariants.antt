@@ -1,9 +1,7 @@
 -- After j turns j bytes of the run lie over out.
 use Prim.Native.Nat.{◌-◌, ◌≤◌}
-use native.Mathlib.Omega.{arith}
-use borrow.Author.Rules.{rules}
-use lib.ListN.{replicate, length-replicate}
-use Rattle.text.proofs.OverlayLaws.{Laid, laid_none, laid_again, laid_all}
+use lib.ListN.{replicate}
+use Rattle.text.proofs.OverlayLaws.{Laid}
 use Rattle.text.proofs.fill.Given as goal
 
 abbrev pub invariant-loop-j : goal.invariant-loop-j

@@ -1,11 +1,8 @@
 -- Each turn takes the last place away.
-use mathlib.Core.Path.{◌≡◌, refl, sym, ap, ◌∙◌}
-use Prim.Native.Nat.{ℕ, zero, suc, ◌-◌, ◌/◌, ◌≤◌, ◌<◌}
-use native.Mathlib.Omega.{arith}
+use mathlib.Core.Path.{◌≡◌}
+use Prim.Native.Nat.{◌≤◌}
 use lib.ListN.{take}
-use lib.Seq.{take_all, take-append-le}
 use Rattle.rules.specs.Decimal.{places}
-use Rattle.rules.proofs.DecimalLaws.{length_places}
 use Rattle.text.proofs.front_places.Given as goal
 
 abbrev pub invariant-loop-k : goal.invariant-loop-k

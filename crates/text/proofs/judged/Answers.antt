@@ -1,7 +1,6 @@
 -- A verdict of 0 and a refused place leave the place; any other verdict refuses.
 use mathlib.Core.Path.{sym}
 use native.Mathlib.Omega.{arith}
-use borrow.Author.Rules.{rules}
 use borrow.Author.Tests.{eq-eqb, ne_eqb}
 use Rattle.text.proofs.PlaceLaws.{reach_no}
 use Rattle.text.proofs.CountLaws.{check_refused}
@@ -16,5 +15,5 @@ returns-then-at-gt-LONGEST_BUFFER c = λ limit room l. refused_stays c.if-at-gt-
 
 pub returns : goal.returns
 returns c =
-    let e = c.refused.ensures in
-    λ limit room l. told (sym (ne_eqb _ 0 c.if-verdict-eq0.false)) (halted (check_refused limit room _ _ _ c.if-at-gt-LONGEST_BUFFER.false e.0) (omega (arith, reach_no _ e.0)))
+    let e = c.refused.ensures.count in
+    λ limit room l. told (sym (ne_eqb _ 0 c.if-verdict-eq0.false)) (halted (check_refused limit room _ _ _ c.if-at-gt-LONGEST_BUFFER.false e) (omega (arith, reach_no _ e)))

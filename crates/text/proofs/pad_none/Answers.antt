@@ -3,11 +3,10 @@ use mathlib.Core.Path.{sym}
 use native.Mathlib.Omega.{arith}
 use Rattle.text.proofs.OverlayLaws.{overlay_nil}
 use Rattle.text.proofs.RanLaws.{placed, as_pad, any_byte}
-use borrow.Author.Rules.{rules}
 use Rattle.text.proofs.pad_none.Goals as goal
 
 pub returns-then-at-out : goal.returns-then-at-out
-returns-then-at-out c = λ byte. as_pad (λ k some. absurd (omega arith)) (placed (sym (overlay_nil _ _)) (omega arith) c.if-at-out.true c.requires)
+returns-then-at-out c = λ byte. as_pad (λ k some. absurd (omega arith)) (placed (sym (overlay_nil _ _)) (omega arith) (omega arith) c.requires)
 
 pub returns : goal.returns
 returns c = λ byte. any_byte c.pad.ensures

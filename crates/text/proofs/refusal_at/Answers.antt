@@ -1,6 +1,5 @@
 -- An event's number is one of the table.
 use mathlib.Core.Path.{ap, ◌∙◌}
-use borrow.Author.Rules.{rules}
 use Rattle.rules.specs.Refusal.{number_of}
 use Rattle.rules.proofs.OneAnswer.{event_number, number_known}
 use Rattle.text.proofs.refusal_at.Goals as goal

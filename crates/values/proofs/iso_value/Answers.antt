@@ -1,20 +1,15 @@
 -- Each of the three by the law of the week's fields.
--- YearIso8601
--- YearIso8601Rem100
--- WeekNumberIso8601
 use mathlib.Core.Path.{refl, ap, ◌∙◌}
 use native.Mathlib.Omega.{arith}
 use lib.IntN.{ℤ, pos}
 use mir.Syntax.{w64}
 use mir.ValLaws.{to_z-of_z}
-use borrow.Author.Rules.{rules}
 use Rattle.rules.specs.declared.IsoWeek.{IsoWeek}
 use Rattle.rules.specs.Decimal.{floor_mod}
 use Rattle.rules.specs.Writing.{value_of, default_width, fill_of, number_fields}
 use Rattle.values.proofs.Laws.{last_of_three, weekly, week_checked}
 use Rattle.values.proofs.iso_value.Goals as goal
 
--- LOOK field match: ['in-YearIso8601', 'in-YearIso8601Rem100', 'in_default']
 pub returns-in-YearIso8601 : goal.returns-in-YearIso8601
 unfolding value_of default_width fill_of number_fields
 returns-in-YearIso8601 c =
@@ -32,4 +27,4 @@ returns-in-YearIso8601Rem100 c =
 
 pub returns-in_default : goal.returns-in_default
 unfolding value_of default_width fill_of number_fields
-returns-in_default c = λ h. week_checked (last_of_three _ c.in-YearIso8601.keys3 h) refl refl (λ w. ap (λ (i : IsoWeek). pos i.week) (c.iso-iso.ensures w)) c.weekly-in_default.ensures
+returns-in_default c = λ h. week_checked (last_of_three c.in_default.not-YearIso8601 c.in_default.not-YearIso8601Rem100 h) refl refl (λ w. ap (λ (i : IsoWeek). pos i.week) (c.iso-iso.ensures w)) c.weekly-in_default.ensures

@@ -3,7 +3,6 @@ use mathlib.Core.Path.{refl}
 use native.Mathlib.Omega.{arith}
 use mir.Syntax.{w64}
 use mir.ValLaws.{to_z_pos}
-use borrow.Author.Rules.{rules}
 use Rattle.values.proofs.Laws.{renumbered}
 use Rattle.values.proofs.spaces.Goals as goal
 

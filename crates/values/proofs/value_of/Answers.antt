@@ -1,41 +1,20 @@
 -- Each arm is one of three laws, of no field, of one field, of the week's fields, or is `iso_value`. What else its calls ask is found by search.
--- Year4Digits
--- YearDiv100
--- YearRem100
--- Month
--- MonthDayZero
--- MonthDaySpace
--- YearDay
--- Hour24hZero
--- Hour24hSpace
--- Hour12hZero
--- Hour12hSpace
--- Minute
--- Second
--- WeekDayFrom1
--- WeekDayFrom0
--- YearIso8601, YearIso8601Rem100, WeekNumberIso8601
--- WeekNumberFromSunday
--- WeekNumberFromMonday
--- SecondsSinceEpoch
 use mathlib.Core.Path.{refl, ap, ◌∙◌}
 use native.Mathlib.Omega.{arith}
 use lib.IntN.{ℤ, pos}
 use mir.Syntax.{w32, w64}
 use mir.ValLaws.{to_z-of_z, to_z_pos}
-use borrow.Author.Rules.{rules}
 use Rattle.rules.specs.Decimal.{floor_div, floor_mod}
 use Rattle.rules.specs.Writing.{value_of, default_width, fill_of, number_fields}
 use Rattle.numbers.proofs.Signed.{widens, widened}
-use Rattle.values.proofs.Laws.{of_iso_week, unchecked, checked, week_checked}
+use Rattle.values.proofs.Laws.{unchecked, checked, week_checked}
 use Rattle.values.proofs.value_of.Goals as goal
 
--- LOOK field match: ['in-Hour12hSpace', 'in-Hour12hZero', 'in-Hour24hSpace', 'in-Hour24hZero', 'in-Minute', 'in-Month', 'in-MonthDaySpace', 'in-MonthDayZero', 'in-Second', 'in-SecondsSinceEpoch', 'in-WeekDayFrom0', 'in-WeekDayFrom1', 'in-WeekNumberFromMonday', 'in-WeekNumberFromSunday', 'in-Year4Digits', 'in-YearDay', 'in-YearDiv100', 'in-YearIso8601', 'in-YearRem100']
 pub overflow_cast-record : goal.overflow_cast-record
 overflow_cast-record c = widens c.args.«record».year (omega arith)
 
 pub overflow_cast-div_euclid_100 : goal.overflow_cast-div_euclid_100
-overflow_cast-div_euclid_100 c = widens c.div_euclid_100.result (record { sfits = c.div_euclid_100.type-inv })
+overflow_cast-div_euclid_100 c = widens c.div_euclid_100.result (record { sfits = c.div_euclid_100.type_inv })
 
 pub returns-in-Year4Digits : goal.returns-in-Year4Digits
 unfolding value_of default_width fill_of number_fields
@@ -46,7 +25,7 @@ unfolding value_of default_width fill_of number_fields
 returns-in-YearDiv100 c =
     let q = c.div_euclid_100 in
     let year = to_z-of_z w32 c.args.«record».year (omega arith) in
-    unchecked c.in-YearDiv100.is refl refl (widened _ (record { sfits = q.type-inv }) ∙ q.ensures ∙ ap (λ (y : ℤ). floor_div y 100) year) c.wide.ensures
+    unchecked c.in-YearDiv100.is refl refl (widened _ (record { sfits = q.type_inv }) ∙ q.ensures ∙ ap (λ (y : ℤ). floor_div y 100) year) c.wide.ensures
 
 pub returns-in-YearRem100 : goal.returns-in-YearRem100
 unfolding value_of default_width fill_of number_fields
@@ -103,9 +82,6 @@ returns-in-WeekDayFrom1 c = checked c.in-WeekDayFrom1.is refl refl c.day_of_week
 pub returns-in-WeekDayFrom0 : goal.returns-in-WeekDayFrom0
 unfolding value_of default_width fill_of number_fields
 returns-in-WeekDayFrom0 c = checked c.in-WeekDayFrom0.is refl refl c.day_of_week-in-WeekDayFrom0.ensures refl c.zeros-in-WeekDayFrom0.ensures
-
-pub returns-in-YearIso8601 : goal.returns-in-YearIso8601
-returns-in-YearIso8601 c = c.iso_value.ensures (of_iso_week _ c.in-Hour12hSpace.keys16)
 
 pub returns-in-WeekNumberFromSunday : goal.returns-in-WeekNumberFromSunday
 unfolding value_of default_width fill_of number_fields

@@ -1,6 +1,5 @@
 -- `week_of` asks for the week number where the check has shown what it requires.
 use native.Mathlib.Omega.{arith}
-use borrow.Author.Rules.{rules}
 use Rattle.rules.proofs.YearLaws.{days_to}
 use Rattle.values.proofs.Laws.{week_range, in_week, not_in_week}
 use Rattle.values.proofs.week_of.Goals as goal

@@ -1,5 +1,4 @@
 -- `weekly` checks the week's fields.
-use borrow.Author.Rules.{rules}
 use Rattle.values.proofs.Laws.{weekly}
 use Rattle.values.proofs.weekly.Goals as goal
 

@@ -5,7 +5,6 @@ use mathlib.Core.Bool.{false}
 use native.Mathlib.Omega.{arith}
 use mir.Syntax.{w64}
 use mir.ValLaws.{to_z-of_z}
-use borrow.Author.Rules.{rules}
 use Rattle.rules.specs.Writing.{year_width}
 use Rattle.rules.proofs.WidthLaws.{year_narrow}
 use Rattle.values.specs.Inner.{Valued}

@@ -2,7 +2,6 @@
 use native.Mathlib.Omega.{arith}
 use mir.Syntax.{w64}
 use mir.ValLaws.{to_z_pos}
-use borrow.Author.Rules.{rules}
 use Rattle.values.proofs.Laws.{renumbered}
 use Rattle.values.proofs.zeros.Goals as goal
 
