@@ -37,15 +37,15 @@ fn built() -> PathBuf {
         "cargo:rerun-if-changed={}",
         root.join("crates.txt").display()
     );
+    let folder = root.join("crates/groatsaddle");
+    // Without the flag the library would need a processor of x86-64-v2.
     match Command::new("rt")
-        .args(["staticlib", "groatsaddle"])
-        .current_dir(&root)
+        .args(["lib", "--cpu", "x86-64"])
+        .current_dir(&folder)
         .status()
     {
-        Ok(status) if status.success() => root.join("target/staticlib/libgroatsaddle.a"),
-        Ok(status) => stop(&format!(
-            "rt staticlib groatsaddle did not build the library: {status}"
-        )),
+        Ok(status) if status.success() => folder.join("out/libgroatsaddle.a"),
+        Ok(status) => stop(&format!("rt lib did not build the library: {status}")),
         Err(error) => stop(&format!("rt, of the Rattle kit, can't be run: {error}")),
     }
 }

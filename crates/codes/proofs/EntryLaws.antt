@@ -7,7 +7,7 @@ use native.Mathlib.Omega.{arith}
 use lib.Dec.{ltb, leb}
 use lib.ListN.{get_or, drop}
 use lib.Seq.{get_or-drop, drop-drop}
-use borrow.Author.Tests.{ne_eqb, le-ltb, lt-leb, le-leb, not-true, not-false}
+use borrow.Author.Tests.{ne_eqb, le-ltb, lt-leb, le-leb}
 use Rattle.rules.specs.declared.Flags.{Flags}
 use Rattle.rules.specs.declared.Padding.{Padding}
 use Rattle.rules.specs.declared.Width.{Width}
@@ -89,12 +89,12 @@ module _ (s : List ℕ) (at : ℕ) where
       go p q r t u = rw (p, q, r, t, u)
 
   module _ {k : Bool} (known : k ≡ is_known (coded_spec (get_or s at 0))) where
-    pub bad_code : not k ≡ true → false ≡ entry_taken (drop at s)
-    bad_code n = let e = sym known ∙ not-true k n in sym (ap (λ (t : Bool). t && (leb (get_or s (at + 1) 0) 2 && (leb (get_or s (at + 2) 0) 7 && width_taken (get_or s (at + 3) 0) (four_of (drop (at + 4) s))))) e) ∙ entry_tests
+    pub bad_code : k ≡ false → false ≡ entry_taken (drop at s)
+    bad_code n = let e = sym known ∙ n in sym (ap (λ (t : Bool). t && (leb (get_or s (at + 1) 0) 2 && (leb (get_or s (at + 2) 0) 7 && width_taken (get_or s (at + 3) 0) (four_of (drop (at + 4) s))))) e) ∙ entry_tests
 
-    module _ (yes : not k ≡ false) where
+    module _ (yes : k ≡ true) where
       there : is_known (coded_spec (get_or s at 0)) ≡ true
-      there = sym known ∙ not-false k yes
+      there = sym known ∙ yes
 
       -- a code and 7 zeros
       pub only_code : {n : ℕ} → Eight (drop at s) n → n < 256 → true ≡ entry_taken (drop at s)

@@ -5,6 +5,7 @@ ghost use Rattle.rules.specs.Stored.{code_of, padding_code, bit, flags_code, pre
 
 use rules::{Combination, Fixed, Flags, Fraction, Name, Number, Offset, Padding, Spec, Width};
 
+#[tactic(auto, unfolding(rules::specs::Stored::code_of))]
 fn number_code(number: Number) -> u8
     ensures { result ≡ code_of (kind.Number number) }
 {
@@ -33,6 +34,7 @@ fn number_code(number: Number) -> u8
     }
 }
 
+#[tactic(auto, unfolding(rules::specs::Stored::code_of))]
 fn name_code(name: Name) -> u8
     ensures { result ≡ code_of (kind.Name name) }
 {
@@ -46,6 +48,7 @@ fn name_code(name: Name) -> u8
     }
 }
 
+#[tactic(auto, unfolding(rules::specs::Stored::code_of))]
 fn fraction_code(fraction: Fraction) -> u8
     ensures { result ≡ code_of (kind.Fraction fraction) }
 {
@@ -55,6 +58,7 @@ fn fraction_code(fraction: Fraction) -> u8
     }
 }
 
+#[tactic(auto, unfolding(rules::specs::Stored::code_of))]
 fn offset_code(offset: Offset) -> u8
     ensures { result ≡ code_of (kind.Offset offset) }
 {
@@ -66,6 +70,7 @@ fn offset_code(offset: Offset) -> u8
     }
 }
 
+#[tactic(auto, unfolding(rules::specs::Stored::code_of))]
 fn fixed_code(fixed: Fixed) -> u8
     ensures { result ≡ code_of (kind.Fixed fixed) }
 {
@@ -76,6 +81,7 @@ fn fixed_code(fixed: Fixed) -> u8
     }
 }
 
+#[tactic(auto, unfolding(rules::specs::Stored::code_of))]
 fn combination_code(combination: Combination) -> u8
     ensures { result ≡ code_of (kind.Combination combination) }
 {
@@ -91,6 +97,7 @@ fn combination_code(combination: Combination) -> u8
 }
 
 // The first letter of the table that means it, or the number of colons of an offset form.
+#[tactic(auto, unfolding(rules::specs::Stored::code_of))]
 pub fn code_of(spec: Spec) -> u8
     ensures { result ≡ code_of spec }
 {

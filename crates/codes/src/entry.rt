@@ -44,6 +44,7 @@ pub fn eight_at(s: &[u8], at: usize) -> usize
 }
 
 // The letter's directive, or the offset form with so many colons.
+#[tactic(auto, unfolding(rules::specs::Stored::coded_spec))]
 fn coded_spec(code: u8) -> Entry
     ensures { result ≡ coded_spec code }
 {
@@ -65,6 +66,7 @@ fn spec_from(code: u8) -> Spec
 }
 
 // Of the codes from 64 on: the letters of the table. All arms are alike, so a compiler makes one test of bits.
+#[tactic(auto, unfolding(rules::specs::Stored::coded_spec, rules::specs::Reading::look_up, rules::specs::Reading::possible_specs))]
 fn is_letter(code: u8) -> bool
     requires { 64 ≤ code }
     ensures { result ≡ is_known (coded_spec code) }
@@ -117,6 +119,7 @@ fn is_letter(code: u8) -> bool
     }
 }
 
+#[tactic(auto, unfolding(rules::specs::Stored::coded_spec, rules::specs::Reading::look_up, rules::specs::Reading::possible_specs))]
 fn is_known(code: u8) -> bool
     ensures { result ≡ is_known (coded_spec code) }
 {

@@ -216,6 +216,7 @@ fn year_text_length(year: i32) -> usize
     year_length(year, year_width(year as i64))
 }
 
+#[tactic(auto, unfolding(rules::specs::Writing::combination_length))]
 fn combination_length(combination: Combination, year: i32) -> usize
     ensures { result ≡ combination_length combination year }
 {

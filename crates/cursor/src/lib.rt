@@ -1,5 +1,4 @@
-// Ports `Cursor` of utils.rs. A function over the struct is proved by hand, so each hands its slice on to one that takes plain slices.
-// It is passed by value: `advanced` hands out a cursor where the original moves its own.
+// Ports `Cursor` of utils.rs. It is passed by value: `advanced` hands out a cursor where the original moves its own.
 #![tactic(auto)]
 
 ghost use Rattle.std.specs.Prelude.{◌≡◌, drop};
@@ -64,7 +63,7 @@ fn parsed_after(format: &[u8], i: usize) -> Parsed
     Cursor::new(format).advanced(i).parsed()
 }
 
-// The same by positions in the format. Its parameters are plain, so whoever calls it needs no proof by hand.
+// The same by positions in the format.
 pub fn parsed_at(format: &[u8], i: usize) -> Parsed
     ensures { result ≡ parse_from (InFlags outset) i (drop i format.now) }
 {

@@ -27,6 +27,7 @@ pub struct GsProgress {
     pub length: usize,
 }
 
+#[tactic(auto, unfolding(crate::specs::Runs::runs_from))]
 fn runs_from(s: GsRuns) -> Runs
     ensures { result ≡ runs_from s }
 {
@@ -40,6 +41,7 @@ fn runs_from(s: GsRuns) -> Runs
     }
 }
 
+#[tactic(auto, unfolding(crate::specs::Runs::runs_to), using(crate::proofs::Laws::byte_is))]
 fn runs_to(s: Runs) -> GsRuns
     ensures { result ≡ runs_to s }
 {
@@ -53,6 +55,7 @@ fn runs_to(s: Runs) -> GsRuns
     }
 }
 
+#[tactic(auto, unfolding(crate::specs::Runs::progress_to, rules::specs::Runs::progressed))]
 fn progress_to(progress: Progress) -> GsProgress
     ensures { result ≡ progress_to (progressed progress) }
 {

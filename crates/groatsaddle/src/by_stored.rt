@@ -6,6 +6,7 @@ ghost use Rattle.groatsaddle.specs.Entries.{record_from, report_from};
 
 use crate::{GsAnswer, GsRecord, answer_from, record_from};
 
+#[tactic(auto, using(crate::proofs::StoredLaws::compiled_small))]
 #[unsafe(no_mangle)]
 pub extern "C" fn gs_compile(format: &[u8], stored: &mut [u8]) -> GsAnswer
     ensures answer { report_from result ≡ reported (compiled format.now (length stored.old)) }
@@ -15,6 +16,7 @@ pub extern "C" fn gs_compile(format: &[u8], stored: &mut [u8]) -> GsAnswer
     answer_from(answer)
 }
 
+#[tactic(auto, using(crate::proofs::StoredLaws::stored_small))]
 #[unsafe(no_mangle)]
 pub extern "C" fn gs_format_stored(
     stored: &[u8],

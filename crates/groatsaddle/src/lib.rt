@@ -58,6 +58,7 @@ pub struct GsCounted {
     pub count: i64,
 }
 
+#[tactic(auto, unfolding(crate::specs::Entries::record_from))]
 fn record_from(r: GsRecord) -> Record
     ensures { result ≡ record_from r }
 {
@@ -77,6 +78,7 @@ fn record_from(r: GsRecord) -> Record
     }
 }
 
+#[tactic(auto, unfolding(crate::specs::Entries::report_from, rules::specs::Refusal::numbered))]
 fn answer_from(answer: Answer) -> GsAnswer
     requires { (numbered answer).bytes ≤ longest_buffer }
     ensures { report_from result ≡ numbered answer }
@@ -93,6 +95,7 @@ fn answer_from(answer: Answer) -> GsAnswer
     }
 }
 
+#[tactic(auto, unfolding(crate::specs::Entries::record_to), using(crate::proofs::Laws::byte_is))]
 fn record_to(r: Record) -> GsRecord
     ensures { result ≡ record_to r }
 {
@@ -112,6 +115,7 @@ fn record_to(r: Record) -> GsRecord
     }
 }
 
+#[tactic(auto, unfolding(crate::specs::Entries::dated_to, rules::specs::Counter::dated_reply))]
 fn dated_to(dated: Dated) -> GsDated
     ensures { result ≡ dated_to (dated_reply dated) }
 {
@@ -143,6 +147,7 @@ fn dated_to(dated: Dated) -> GsDated
     }
 }
 
+#[tactic(auto, unfolding(crate::specs::Entries::counted_to, rules::specs::Counter::counted_reply))]
 fn counted_to(counted: Counted) -> GsCounted
     ensures { result ≡ counted_to (counted_reply counted) }
 {
@@ -155,6 +160,7 @@ fn counted_to(counted: Counted) -> GsCounted
     }
 }
 
+#[tactic(auto, using(crate::proofs::Laws::report_small))]
 #[unsafe(no_mangle)]
 pub extern "C" fn gs_format(
     format: &[u8],
@@ -169,6 +175,7 @@ pub extern "C" fn gs_format(
     answer_from(answer)
 }
 
+#[tactic(auto, using(sizing::proofs::EntryLaws::size_small))]
 #[unsafe(no_mangle)]
 pub extern "C" fn gs_size(format: &[u8], longest_zone: usize) -> GsAnswer
     ensures answer { report_from result ≡ size_of format.now longest_zone }

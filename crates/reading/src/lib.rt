@@ -28,6 +28,7 @@ fn outset() -> Options
     }
 }
 
+#[tactic(auto, unfolding(rules::specs::Reading::on_flag))]
 fn flag_step(options: Options, b: u8) -> FlagStep
     ensures { (other : Turn) → flag_turn result other ≡ on_flag options b other }
 {
@@ -126,6 +127,7 @@ fn parse_modified(
     Parsed::Echo(at)
 }
 
+#[tactic(auto, unfolding(crate::specs::Stages::colon_entry))]
 fn colon_entry(colons: usize) -> Entry
     ensures { result ≡ colon_entry colons }
 {
@@ -166,6 +168,7 @@ fn parse_colons(format: &[u8], options: Options, width: Width, start: usize) -> 
 }
 
 // The byte after the flags and the width.
+#[tactic(auto, using(crate::proofs::Laws::letter_high))]
 fn parse_letter(format: &[u8], options: Options, width: Width, at: usize) -> Parsed
     requires { at < length format.now }
     ensures { result ≡ turned format.now at (on_letter options width (get_or format.now at 0)) }

@@ -1,25 +1,24 @@
 -- The directives that are left, one by one.
 use mathlib.Core.Path.{◌≡◌, refl, sym, ap, ◌∙◌}
-use mathlib.Core.Bool.{Bool, true, false, not}
+use mathlib.Core.Bool.{Bool, true, false}
 use mathlib.Core.List.{List}
 use Prim.Native.Nat.{ℕ, zero, suc, ◌+◌, ◌-◌, ◌≤◌, ◌<◌}
 use native.Mathlib.Omega.{arith}
-use borrow.Author.Tests.{not-true, not-false}
 use lib.ListN.{drop}
 use lib.Seq.{drop-drop}
 use Rattle.rules.specs.Stored.{entry_taken, entries_taken}
 
 module _ (s : List ℕ) (i : ℕ) {k : Bool} (taken : k ≡ entry_taken (drop i s)) where
-  pub entries_stop : (n : ℕ) → 0 < n → not k ≡ true → false ≡ entries_taken n (drop i s)
+  pub entries_stop : (n : ℕ) → 0 < n → k ≡ false → false ≡ entries_taken n (drop i s)
   unfolding entries_taken
   entries_stop zero h t = absurd (omega arith)
-  entries_stop (suc n) h t = let e = sym taken ∙ not-true k t in rw e
+  entries_stop (suc n) h t = let e = sym taken ∙ t in rw e
 
-  pub entries_next : (n : ℕ) → 0 < n → not k ≡ false → entries_taken (n - 1) (drop (i + 8) s) ≡ entries_taken n (drop i s)
+  pub entries_next : (n : ℕ) → 0 < n → k ≡ true → entries_taken (n - 1) (drop (i + 8) s) ≡ entries_taken n (drop i s)
   unfolding entries_taken
   entries_next zero h t = absurd (omega arith)
   entries_next (suc n) h t =
-      let e = sym taken ∙ not-false k t in
+      let e = sym taken ∙ t in
       let m : suc n - 1 ≡ n = omega arith in
       rw (e, m) (ap (entries_taken n) (sym (drop-drop 8 i s)))
 

@@ -13,6 +13,7 @@ const EXT_E_SPECS: [u8; 6] = *b"CXYcxy";
 
 const EXT_O_SPECS: [u8; 15] = *b"HIMSUVWdeklmuwy";
 
+#[tactic(auto, unfolding(rules::specs::Reading::possible_specs))]
 fn possible_specs() -> [u8; 44]
     ensures letters { result ≡ letters possible_specs }
     ensures sorted { rising result ≡ true }
@@ -51,6 +52,7 @@ pub fn is_possible(b: u8) -> bool
 }
 
 // The directive of a letter.
+#[tactic(auto, unfolding(rules::specs::Reading::look_up, rules::specs::Reading::possible_specs))]
 pub fn spec_of(b: u8) -> Entry
     ensures { result ≡ spec_of b }
 {
@@ -104,6 +106,7 @@ pub fn spec_of(b: u8) -> Entry
 }
 
 // Whether `E` or `O` before the letter b is skipped.
+#[tactic(auto, unfolding(rules::specs::Reading::modified))]
 pub fn skips(modifier: Modifier, b: u8) -> bool
     ensures { result ≡ member b (modified modifier) }
 {

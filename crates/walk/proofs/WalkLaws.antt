@@ -2,7 +2,7 @@
 use mathlib.Core.Path.{◌≡◌, refl, sym, ap, ◌∙◌}
 use mathlib.Core.Bool.{false}
 use mathlib.Core.List.{List, [], ◌∷◌, ◌++◌, append_assoc, append-nil, map}
-use Prim.Native.Nat.{ℕ, ◌+◌, ◌-◌, ◌≤◌, ◌<◌}
+use Prim.Native.Nat.{ℕ, ◌-◌, ◌≤◌, ◌<◌}
 use native.Mathlib.Omega.{arith}
 use lib.ListN.{length, take, drop, length-take, length-drop}
 use lib.Seq.{drop-length}
@@ -10,7 +10,7 @@ use Rattle.rules.specs.declared.Record.{Record}
 use Rattle.rules.specs.declared.Piece.{Piece}
 use Rattle.rules.specs.Event.{put, Event, write, check, text_of, bytes_of, Count, at, no, one, tally}
 use Rattle.rules.specs.Writing.{events_of}
-use Rattle.rules.specs.Format.{Item, literal, echo, directive, cut, between, read, ending, items, item_events, events}
+use Rattle.rules.specs.Format.{Item, literal, echo, directive, cut, between, read, ending, item_events, events}
 use Rattle.rules.proofs.EventLaws.{join_counts, tally_no}
 use Rattle.rules.proofs.Resume.{events_join}
 use Rattle.text.specs.Ran.{Ran}

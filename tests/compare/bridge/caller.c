@@ -18,7 +18,7 @@ static void stop(const char *why) {
     abort();
 }
 
-/* EMULATOR, LOADER, LIBRARIES and SERVER are paths, given by the script that builds this. */
+/* EMULATOR and SERVER are paths, given by the script that builds this. */
 static void start(void) {
     int ends[2];
     if (socketpair(AF_UNIX, SOCK_STREAM | SOCK_CLOEXEC, 0, ends) != 0)
@@ -29,7 +29,7 @@ static void start(void) {
     if (child == 0) {
         dup2(ends[1], 0);
         dup2(ends[1], 1);
-        execl(EMULATOR, EMULATOR, LOADER, "--library-path", LIBRARIES, SERVER, (char *)NULL);
+        execl(EMULATOR, EMULATOR, SERVER, (char *)NULL);
         _exit(127);
     }
     close(ends[1]);

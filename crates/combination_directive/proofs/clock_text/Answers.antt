@@ -1,6 +1,5 @@
 -- Three times two digits.
 use mathlib.Core.List.{flatten}
-use borrow.Author.Rules.{rules}
 use Rattle.combination_directive.proofs.clock_text.Goals as goal
 
 pub returns : goal.returns

@@ -8,4 +8,4 @@ use Rattle.combination_directive.proofs.combination.Goals as goal
 pub returns : goal.returns
 returns c =
     let a = c.args in
-    padded a.combination a.«record» a.piece (rw (to_z-of_z w32 a.«record».year (search rules)) at c.combination_length_lem.ensures) c.contains-upper.ensures c.write_padding-next.ensures c.combined.ensures
+    padded a.combination a.«record» a.piece (rw (to_z-of_z w32 a.«record».year (search rules)) at c.combination_length-length.ensures) c.contains-upper.ensures c.write_padding-next.ensures c.combined.ensures

@@ -1,5 +1,4 @@
 -- Each arm is the combination that was matched.
-use borrow.Author.Rules.{rules}
 use Rattle.combination_directive.proofs.combined.Goals as goal
 
 pub returns-in-CombinationDateTime : goal.returns-in-CombinationDateTime

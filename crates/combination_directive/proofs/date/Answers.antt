@@ -6,7 +6,6 @@ use mir.ValLaws.{to_z-of_z}
 use Rattle.rules.specs.declared.Combination.TheVariants.{CombinationDate}
 use Rattle.rules.specs.Record.{month, day}
 use Rattle.rules.specs.Writing.{combination_fields, combination_text}
-use Rattle.rules.proofs.FloorLaws.{mod_below}
 use Rattle.combination_directive.proofs.CombinedLaws.{judgeable, Held, held_by, failed, written}
 use borrow.Author.Rules.{rules}
 use Rattle.combination_directive.proofs.date.Goals as goal
@@ -23,16 +22,13 @@ unfolding combination_fields
 returns-then-verdict-ne0 c = λ upper. failed CombinationDate _ c.date.ensures c.verdict-verdict.ensures c.if-verdict-ne0.true c.judged.ensures
 
 pub two_digits-month-requires : goal.two_digits-month-requires
-two_digits-month-requires c = omega (arith, (held (goal.at.two_digits-month-requires c).Else-verdict-ne0).ranges-2)
+two_digits-month-requires c = omega (arith, (held (goal.at.two_digits-month-requires c).Else-verdict-ne0).ranges)
 
 pub two_digits-day-requires : goal.two_digits-day-requires
 two_digits-day-requires c = omega (arith, (held (goal.at.two_digits-day-requires c).Else-verdict-ne0).ranges)
 
-pub two_digits-year-requires : goal.two_digits-year-requires
-two_digits-year-requires c = let y = c.args.«record».year in rw (c.rem_euclid_100.ensures, to_z-of_z w32 y (search rules)) (mod_below y 100 (omega arith))
-
 pub returns : goal.returns
 unfolding combination_fields combination_text flatten
 returns c =
-    let k = c in let year = rw (k.rem_euclid_100.ensures, to_z-of_z w32 k.args.«record».year (search rules)) at k.two_digits-year.ensures in
-    λ upper. written CombinationDate _ (held (goal.at.returns k).Else-verdict-ne0) (λ f e. rw (← k.two_digits-month.ensures, ← k.two_digits-day.ensures, ← year)) c.put.ensures
+    let year = rw (c.rem_euclid_100.ensures, to_z-of_z w32 c.args.«record».year (search rules)) at c.two_digits-year.ensures in
+    λ upper. written CombinationDate _ (held (goal.at.returns c).Else-verdict-ne0) (λ f e. rw (← c.two_digits-month.ensures, ← c.two_digits-day.ensures, ← year)) c.put.ensures

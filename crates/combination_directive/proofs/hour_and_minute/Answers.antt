@@ -1,6 +1,5 @@
 -- The two fields are checked one after the other.
 use Rattle.fields.proofs.Laws.{two_held, two_failed}
-use borrow.Author.Rules.{rules}
 use Rattle.combination_directive.proofs.hour_and_minute.Goals as goal
 
 pub returns-then-hour : goal.returns-then-hour

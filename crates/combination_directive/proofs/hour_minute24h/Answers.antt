@@ -5,7 +5,6 @@ use Rattle.rules.specs.declared.Combination.TheVariants.{CombinationHourMinute24
 use Rattle.rules.specs.Record.{hour, minute}
 use Rattle.rules.specs.Writing.{combination_fields, combination_text}
 use Rattle.combination_directive.proofs.CombinedLaws.{judgeable, Held, held_by, failed, written}
-use borrow.Author.Rules.{rules}
 use Rattle.combination_directive.proofs.hour_minute24h.Goals as goal
 use Rattle.combination_directive.proofs.hour_minute24h.Goals.{Else-verdict-ne0}
 
@@ -20,7 +19,7 @@ unfolding combination_fields
 returns-then-verdict-ne0 c = λ upper. failed CombinationHourMinute24h _ c.hour_and_minute.ensures c.verdict-verdict.ensures c.if-verdict-ne0.true c.judged.ensures
 
 pub two_digits-hour-requires : goal.two_digits-hour-requires
-two_digits-hour-requires c = omega (arith, (held (goal.at.two_digits-hour-requires c).Else-verdict-ne0).ranges-2)
+two_digits-hour-requires c = omega (arith, (held (goal.at.two_digits-hour-requires c).Else-verdict-ne0).ranges)
 
 pub two_digits-minute-requires : goal.two_digits-minute-requires
 two_digits-minute-requires c = omega (arith, (held (goal.at.two_digits-minute-requires c).Else-verdict-ne0).ranges)
@@ -28,4 +27,4 @@ two_digits-minute-requires c = omega (arith, (held (goal.at.two_digits-minute-re
 pub returns : goal.returns
 unfolding combination_fields combination_text flatten
 returns c =
-    let k = c in λ upper. written CombinationHourMinute24h _ (held (goal.at.returns k).Else-verdict-ne0) (λ f e. rw (← k.two_digits-hour.ensures, ← k.two_digits-minute.ensures)) c.put.ensures
+    λ upper. written CombinationHourMinute24h _ (held (goal.at.returns c).Else-verdict-ne0) (λ f e. rw (← c.two_digits-hour.ensures, ← c.two_digits-minute.ensures)) c.put.ensures

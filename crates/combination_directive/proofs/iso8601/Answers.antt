@@ -4,7 +4,7 @@ use native.Mathlib.Omega.{arith}
 use Rattle.rules.specs.declared.Combination.TheVariants.{CombinationIso8601}
 use Rattle.rules.specs.Record.{month, day}
 use Rattle.rules.specs.Writing.{combination_fields, combination_text}
-use Rattle.numbers.proofs.Signed.{widens, widened}
+use Rattle.numbers.proofs.Signed.{widened}
 use Rattle.text.proofs.RanLaws.{◌then◌, joined}
 use Rattle.combination_directive.proofs.CombinedLaws.{judgeable, Held, held_by, failed, written}
 use borrow.Author.Rules.{rules}
@@ -22,16 +22,13 @@ unfolding combination_fields
 returns-then-verdict-ne0 c = λ upper. failed CombinationIso8601 _ c.date.ensures c.verdict-verdict.ensures c.if-verdict-ne0.true c.judged.ensures
 
 pub two_digits-month-requires : goal.two_digits-month-requires
-two_digits-month-requires c = omega (arith, (held (goal.at.two_digits-month-requires c).Else-verdict-ne0).ranges-2)
+two_digits-month-requires c = omega (arith, (held (goal.at.two_digits-month-requires c).Else-verdict-ne0).ranges)
 
 pub two_digits-day-requires : goal.two_digits-day-requires
 two_digits-day-requires c = omega (arith, (held (goal.at.two_digits-day-requires c).Else-verdict-ne0).ranges)
 
-pub overflow_cast-record : goal.overflow_cast-record
-overflow_cast-record c = widens c.args.«record».year (search rules)
-
 pub returns : goal.returns
 unfolding combination_fields combination_text flatten
 returns c =
-    let k = c in let year = widened k.args.«record».year (search rules) in
-    λ upper. written CombinationIso8601 _ (held (goal.at.returns k).Else-verdict-ne0) (λ f e. rw (year, ← k.two_digits-month.ensures, ← k.two_digits-day.ensures)) (λ limit. joined (c.put_year-next.ensures limit then c.put.ensures limit))
+    let year = widened c.args.«record».year (search rules) in
+    λ upper. written CombinationIso8601 _ (held (goal.at.returns c).Else-verdict-ne0) (λ f e. rw (year, ← c.two_digits-month.ensures, ← c.two_digits-day.ensures)) (λ limit. joined (c.put_year-next.ensures limit then c.put.ensures limit))

@@ -7,7 +7,6 @@ use Rattle.rules.specs.Record.{hour, minute, second}
 use Rattle.rules.specs.Writing.{combination_fields, combination_text}
 use Rattle.rules.proofs.WidthLaws.{hour12_below}
 use Rattle.combination_directive.proofs.CombinedLaws.{judgeable, Held, held_by, failed, written}
-use borrow.Author.Rules.{rules}
 use Rattle.combination_directive.proofs.time12h.Goals as goal
 use Rattle.combination_directive.proofs.time12h.Goals.{Else-verdict-ne0}
 
@@ -27,4 +26,4 @@ clock_text-clock-requires c = omega (arith, c.hour12-hour.ensures, hour12_below 
 pub returns : goal.returns
 unfolding combination_fields combination_text flatten places
 returns c =
-    let k = c in λ upper. written CombinationTime12h _ (held (goal.at.returns k).Else-verdict-ne0) (λ f e. rw (k.clock_text-clock.ensures, k.hour12-hour.ensures, ← k.half.ensures)) c.put.ensures
+    λ upper. written CombinationTime12h _ (held (goal.at.returns c).Else-verdict-ne0) (λ f e. rw (c.clock_text-clock.ensures, c.hour12-hour.ensures, ← c.half.ensures)) c.put.ensures

@@ -1,7 +1,6 @@
 -- `parsed_at`: what was parsed, with its positions moved.
 use mathlib.Core.Path.{sym, ◌∙◌}
 use native.Mathlib.Omega.{arith}
-use borrow.Author.Rules.{rules}
 use Rattle.cursor.proofs.Positions.{parsed_there, ends_there}
 use Rattle.cursor.proofs.parsed_at.Goals as goal
 

@@ -3,7 +3,6 @@ use mathlib.Core.Path.{refl}
 use native.Mathlib.Omega.{arith}
 use Rattle.rules.proofs.DecimalLaws.{count_pos, count_above}
 use Rattle.numbers.proofs.CountLaws.{count_64}
-use borrow.Author.Rules.{rules}
 use Rattle.numbers.proofs.digit_count.Goals as goal
 
 pub returns-then-v-lt100000 : goal.returns-then-v-lt100000

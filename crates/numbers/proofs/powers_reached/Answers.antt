@@ -1,7 +1,6 @@
 -- Each answer j lies between two powers of ten, j and j + 1 places after the first.
 use native.Mathlib.Omega.{arith}
 use Rattle.numbers.proofs.CountLaws.{none_reached, some_reached}
-use borrow.Author.Rules.{rules}
 use Rattle.numbers.proofs.powers_reached.Goals as goal
 
 pub returns-then-v-power : goal.returns-then-v-power

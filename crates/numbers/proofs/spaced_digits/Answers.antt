@@ -1,7 +1,6 @@
 -- A space and a digit below 10, else the two digits.
 use mathlib.Core.Path.{refl, sym, ◌∙◌}
 use Rattle.rules.proofs.DecimalLaws.{two_is, day_text_small, day_text_large}
-use borrow.Author.Rules.{rules}
 use Rattle.numbers.proofs.spaced_digits.Goals as goal
 
 pub returns-then-v-lt10 : goal.returns-then-v-lt10

@@ -1,5 +1,4 @@
 -- The tens and the ones.
-use borrow.Author.Rules.{rules}
 use Rattle.rules.proofs.DecimalLaws.{two_is}
 use Rattle.numbers.proofs.two_digits.Goals as goal
 

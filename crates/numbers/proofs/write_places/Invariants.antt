@@ -1,10 +1,7 @@
 -- The loop's invariant: the places from at + left on are written, and what is left of v has yet to come. The measure is how many are left.
-use Rattle.std.specs.Prelude.{◌≡◌, ◌+◌, ◌++◌, drop}
-use mathlib.Core.Path.{refl}
-use native.Mathlib.Omega.{arith}
-use lib.ListN.{length-set}
+use Rattle.std.specs.Prelude.{◌+◌, ◌++◌, drop}
 use Rattle.rules.specs.Decimal.{places}
-use Rattle.numbers.proofs.PlacesLaws.{Written, none, one_more, two_more, all, tens_byte, ones_byte}
+use Rattle.numbers.proofs.PlacesLaws.{Written}
 use Rattle.numbers.proofs.write_places.Given as goal
 
 abbrev pub invariant-loop-left : goal.invariant-loop-left

@@ -1,8 +1,7 @@
 -- The length of the form that the arm knows.
-use mathlib.Core.Path.{sym, ap, ◌∙◌}
+use mathlib.Core.Path.{sym, ap}
 use Rattle.rules.specs.declared.Offset.{Offset}
 use Rattle.rules.specs.Offset.{form_of, length_of_form}
-use borrow.Author.Rules.{rules}
 use Rattle.offset_directive.proofs.form_length.Goals as goal
 
 pub returns-in-TimeZoneOffsetHourMinute : goal.returns-in-TimeZoneOffsetHourMinute
@@ -16,6 +15,3 @@ returns-in-TimeZoneOffsetHourMinuteColon c = λ z m s. sym (ap (λ (o : Offset).
 pub returns-in-TimeZoneOffsetHourMinuteSecondColon : goal.returns-in-TimeZoneOffsetHourMinuteSecondColon
 unfolding form_of length_of_form
 returns-in-TimeZoneOffsetHourMinuteSecondColon c = λ z m s. sym (ap (λ (o : Offset). length_of_form (form_of o z)) c.in-TimeZoneOffsetHourMinuteSecondColon.is)
-
-pub returns-in-TimeZoneOffsetColonMinimal : goal.returns-in-TimeZoneOffsetColonMinimal
-returns-in-TimeZoneOffsetColonMinimal c = λ z m s. c.minimal_length.ensures z m s ∙ sym (ap (λ (o : Offset). length_of_form (form_of o z)) c.in-TimeZoneOffsetColonMinimal.is)

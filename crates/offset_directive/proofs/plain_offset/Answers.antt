@@ -9,7 +9,6 @@ use borrow.Author.Rules.{rules}
 use Rattle.offset_directive.proofs.plain_offset.Goals as goal
 
 pub returns : goal.returns
-returns c = let a = c.args in
-    λ zone.
-    offset_run a.offset (plain_piece (offset a.offset)) a.«record» zone refl refl refl (to_z-of_z w32 _ (record { sfits = c.struct_told-1.given.1.1.1.1.1.1.1.1.1.1.1.0.1 }))
-    c.zone_offset.ensures
+returns c =
+    let a = c.args in
+    λ zone. offset_run a.offset (plain_piece (offset a.offset)) a.«record» zone refl refl refl (to_z-of_z w32 _ (search rules)) c.zone_offset.ensures

@@ -1,6 +1,5 @@
 -- The sign is put.
 use Rattle.text.proofs.RanLaws.{said}
-use borrow.Author.Rules.{rules}
 use Rattle.offset_directive.proofs.write_hour_sign.Goals as goal
 
 pub returns : goal.returns

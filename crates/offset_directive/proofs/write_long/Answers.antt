@@ -1,11 +1,10 @@
 -- The form that the length tells.
+use Rattle.std.proofs.Common.{arith}
 use Rattle.rules.specs.Offset.{hh, hhmm, hh:mm, hh:mm:ss, length_of_form}
 use Rattle.offset_directive.proofs.FormLaws.{form_told, form_last}
 use Rattle.offset_directive.proofs.WriteLaws.{in_form}
-use borrow.Author.Rules.{rules}
 use Rattle.offset_directive.proofs.write_long.Goals as goal
 
--- LOOK field match: ['in-3', 'in-5', 'in-6', 'in_default']
 pub returns-in-3 : goal.returns-in-3
 unfolding length_of_form
 returns-in-3 c = λ form e. in_form hh _ _ _ (form_told hh form c.in-3.is e) c.write_offset_hh.ensures
@@ -19,4 +18,4 @@ unfolding length_of_form
 returns-in-6 c = λ form e. in_form hh:mm _ _ _ (form_told hh:mm form c.in-6.is e) c.write_offset_hh_mm.ensures
 
 pub returns-in_default : goal.returns-in_default
-returns-in_default c = λ form e. let k = c.in-3.rest in in_form hh:mm:ss _ _ _ (form_last form e k.0.0.1 k.0.1 k.1) c.write_offset_hh_mm_ss.ensures
+returns-in_default c = λ form e. in_form hh:mm:ss _ _ _ (form_last form e (omega arith) (omega arith) (omega arith)) c.write_offset_hh_mm_ss.ensures

@@ -1,7 +1,6 @@
 -- Hours alone.
 use Rattle.rules.specs.Offset.{length_of_form}
 use Rattle.offset_directive.proofs.WriteLaws.{hour_alone}
-use borrow.Author.Rules.{rules}
 use Rattle.offset_directive.proofs.write_offset_hh.Goals as goal
 
 pub returns : goal.returns

@@ -5,7 +5,6 @@ use Rattle.rules.proofs.DecimalLaws.{two_is}
 use Rattle.text.proofs.RanLaws.{said}
 use Rattle.offset_directive.proofs.TextLaws.{colon_minute}
 use Rattle.offset_directive.proofs.WriteLaws.{hour_then}
-use borrow.Author.Rules.{rules}
 use Rattle.offset_directive.proofs.write_offset_hh_mm.Goals as goal
 
 pub returns : goal.returns

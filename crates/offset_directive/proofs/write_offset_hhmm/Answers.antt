@@ -2,7 +2,6 @@
 use Rattle.rules.specs.Offset.{hhmm, length_of_form}
 use Rattle.offset_directive.specs.Parts.{parts_text}
 use Rattle.offset_directive.proofs.WriteLaws.{hour_then}
-use borrow.Author.Rules.{rules}
 use Rattle.offset_directive.proofs.write_offset_hhmm.Goals as goal
 
 pub returns : goal.returns

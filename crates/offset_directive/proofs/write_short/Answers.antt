@@ -10,21 +10,17 @@ use Rattle.text.proofs.RanLaws.{said}
 use Rattle.offset_directive.specs.Parts.{parts_text}
 use Rattle.offset_directive.proofs.FormLaws.{form_told, form_last}
 use Rattle.offset_directive.proofs.TextLaws.{colon_minute, colons_minute_second, short_text}
-use borrow.Author.Rules.{rules}
 use Rattle.offset_directive.proofs.write_short.Goals as goal
 use Rattle.offset_directive.proofs.write_short.Goals.{After-ones-n}
 
--- LOOK field match: ['in-3', 'in-5', 'in-6', 'in_default']
 minutes : (c : After-ones-n) → c.tens-m.result ∷ c.ones-n.result ∷ [] ≡ two c.args.minute
 minutes c = two_is c.args.minute (omega (arith, c.requires.2)) c.tens-m.ensures c.ones-n.ensures
 
 text : (c : After-ones-n) {form other : Form} {rest : List ℕ} → form ≡ other → rest ≡ parts_text form c.args.minute c.args.second
     → c.hour_sign-sign.result ∷ c.tens-h.result ∷ c.ones-k.result ∷ rest ≡ sign_of c.args.negative ++ (two c.args.hours ++ parts_text other c.args.minute c.args.second)
 text c f p =
-    let after-tens = c in let after-hour-sign = after-tens in
-    let start = after-hour-sign in
-    short_text start.args.negative start.args.hours start.args.minute start.args.second f after-hour-sign.hour_sign-sign.ensures
-    (two_is start.args.hours start.requires.1 after-tens.tens-h.ensures c.ones-k.ensures) p
+    short_text c.args.negative c.args.hours c.args.minute c.args.second f c.hour_sign-sign.ensures
+    (two_is c.args.hours c.requires.1 c.tens-h.ensures c.ones-k.ensures) p
 
 pub returns-in-3 : goal.returns-in-3
 unfolding length_of_form parts_text
@@ -39,8 +35,9 @@ unfolding length_of_form
 returns-in-6 c = λ limit form e. said (text (goal.at.returns-in-6 c).After-ones-n (form_told hh:mm form c.in-6.is e) (colon_minute _ _ (minutes (goal.at.returns-in-6 c).After-ones-n))) (c.put-in-6.ensures limit)
 
 pub returns-in_default : goal.returns-in_default
-returns-in_default c = let s = c in let k = c.in-3.rest in
+returns-in_default c =
     λ limit form e.
     said
-    (text (goal.at.returns-in_default c).After-ones-n (form_last form e k.0.0.1 k.0.1 k.1) (colons_minute_second _ _ (minutes (goal.at.returns-in_default c).After-ones-n) (two_is s.args.second (omega (arith, s.requires.3)) c.tens-s.ensures c.ones-t.ensures)))
+    (text (goal.at.returns-in_default c).After-ones-n (form_last form e (omega arith) (omega arith) (omega arith))
+    (colons_minute_second _ _ (minutes (goal.at.returns-in_default c).After-ones-n) (two_is c.args.second (omega (arith, c.requires.3)) c.tens-s.ensures c.ones-t.ensures)))
     (c.put-in_default.ensures limit)

@@ -1,7 +1,6 @@
 -- A pad of spaces and the sign, or the sign and a pad of zeros.
 use Rattle.rules.specs.Offset.{sign_and_pad}
 use Rattle.text.proofs.RanLaws.{◌then◌}
-use borrow.Author.Rules.{rules}
 use Rattle.offset_directive.proofs.write_sign_and_pad.Goals as goal
 
 pub returns-then-spaces : goal.returns-then-spaces

@@ -1,6 +1,5 @@
 -- The parts are those of the offset; the quick way or the general way writes them.
 use mathlib.Core.Path.{◌≡◌, ap, ◌∙◌}
-use native.Mathlib.Omega.{arith}
 use lib.IntN.{ℤ}
 use mir.Syntax.{w32}
 use mir.ValLaws.{to_z-of_z}
@@ -8,22 +7,17 @@ use Rattle.rules.specs.Offset.{form_of, length_of_form}
 use Rattle.offset.specs.Parts.{parts_for}
 use Rattle.offset_directive.proofs.ShortLaws.{Short, short_is, below_hundred, short_run}
 use Rattle.offset_directive.proofs.PartsLaws.{small_parts, place_is, length_is, of_offset}
-use borrow.Author.Rules.{rules}
 use Rattle.offset_directive.proofs.zone_offset.Goals as goal
 use Rattle.offset_directive.proofs.zone_offset.Goals.{After-form_length-length, After-offset_parts-parts, Then-is_short}
 
--- LOOK field if1: ['else-room-limit', 'if-room-limit']
 parts : (c : After-offset_parts-parts) → c.offset_parts-parts.result ≡ parts_for c.args.utc_offset c.args.is_utc c.args.left
 parts c = c.offset_parts-parts.ensures ∙ ap (λ (z : ℤ). parts_for z c.args.is_utc c.args.left) (to_z-of_z w32 _ c.ranges.utc_offset)
 
 told_length : (c : After-form_length-length) → c.form_length-length.result ≡ length_of_form (form_of c.args.offset c.args.utc_offset)
-told_length c = length_is _ _ _ (parts c) _ c.form_length-length.ensures
+told_length c = length_is _ _ _ (c.offset_parts-parts.ensures ∙ ap (λ (z : ℤ). parts_for z c.args.is_utc c.args.left) (to_z-of_z w32 _ c.ranges.utc_offset)) _ c.form_length-length.ensures
 
 short : (c : Then-is_short) → Short c.args.width c.form_length-length.result c.args.spaces c.offset_parts-parts.result.minus c.offset_parts-parts.result.hours
 short c = short_is _ _ _ _ _ c.is_short.ensures c.if-is_short.true
-
-pub overflow_cast-hours : goal.overflow_cast-hours
-overflow_cast-hours c = let k = below_hundred (short (goal.at.overflow_cast-hours c).Then-is_short) in record { fits = omega arith }
 
 pub write_short-requires : goal.write_short-requires
 write_short-requires c = let small = small_parts _ _ _ (parts (goal.at.write_short-requires c).After-offset_parts-parts) in
@@ -31,15 +25,11 @@ write_short-requires c = let small = small_parts _ _ _ (parts (goal.at.write_sho
 
 pub returns-then-is_short : goal.returns-then-is_short
 returns-then-is_short c =
-    let start = c in let after-if1 = start in
-    let start-2 = after-if1 in
-    let after-offset-parts = start-2 in
-    let start-3 = after-offset-parts in
-    let a = start-3.args in
-    let e = parts (after-offset-parts) in
-    let told = told_length (start-2) in
+    let a = c.args in
+    let e = parts (goal.at.returns-then-is_short c).After-offset_parts-parts in
+    let told = told_length (goal.at.returns-then-is_short c).After-form_length-length in
     of_offset _ _ _ e _ _ _
-    (short_run (form_of a.offset a.utc_offset) a.width a.spaces after-offset-parts.offset_parts-parts.result told (short (start)) (place_is _ _ _ e) after-if1.else-room-limit.true
+    (short_run (form_of a.offset a.utc_offset) a.width a.spaces c.offset_parts-parts.result told (short (goal.at.returns-then-is_short c).Then-is_short) (place_is _ _ _ e) c.if-room-limit.true
     (c.write_short.ensures _ _ told))
 
 pub write_long-requires : goal.write_long-requires

@@ -1,10 +1,7 @@
 -- What is left of the format has the fault of all of it.
-use mathlib.Core.Path.{◌≡◌, refl, sym, ◌∙◌}
-use Prim.Native.Nat.{◌-◌}
+use mathlib.Core.Path.{refl, sym, ◌∙◌}
 use native.Mathlib.Omega.{arith}
-use lib.ListN.{length, drop}
-use borrow.Author.Rules.{rules}
-use Rattle.rules.specs.Format.{between, read, items, fault}
+use Rattle.rules.specs.Format.{fault}
 use Rattle.reading.proofs.Positions.{items_at}
 use Rattle.reading.proofs.Faults.{fault_part, fault_run, fault_last}
 use Rattle.reading.proofs.fault_of.Goals as goal
@@ -14,31 +11,31 @@ loop-at-init c = refl
 
 pub loop-at-smaller-in-Directive : goal.loop-at-smaller-in-Directive
 loop-at-smaller-in-Directive c =
-    let s = c in let part = (items_at _ _).percent s.loop-at-test.true s.if-format-at-eq37.true _ (sym s.parse_spec-parsed.ensures ∙ c.in-Directive.is) in
+    let part = (items_at _ _).percent c.loop-at-test.true c.if-format-at-eq37.true _ (sym c.parse_spec-parsed.ensures ∙ c.in-Directive.is) in
     omega arith
 
 pub loop-at-preserved-in-Directive : goal.loop-at-preserved-in-Directive
 unfolding fault
 loop-at-preserved-in-Directive c =
-    let s = c in fault_part _ _ _ _ ((items_at _ _).percent s.loop-at-test.true s.if-format-at-eq37.true _ (sym s.parse_spec-parsed.ensures ∙ c.in-Directive.is)) refl
-    ∙ s.loop-at.invariant
+    fault_part _ _ _ _ ((items_at _ _).percent c.loop-at-test.true c.if-format-at-eq37.true _ (sym c.parse_spec-parsed.ensures ∙ c.in-Directive.is)) refl
+    ∙ c.loop-at.invariant
 
 pub loop-at-smaller-in-Echo : goal.loop-at-smaller-in-Echo
 loop-at-smaller-in-Echo c =
-    let s = c in let part = (items_at _ _).percent s.loop-at-test.true s.if-format-at-eq37.true _ (sym s.parse_spec-parsed.ensures ∙ c.in-Echo.is) in
+    let part = (items_at _ _).percent c.loop-at-test.true c.if-format-at-eq37.true _ (sym c.parse_spec-parsed.ensures ∙ c.in-Echo.is) in
     omega arith
 
 pub loop-at-preserved-in-Echo : goal.loop-at-preserved-in-Echo
 unfolding fault
 loop-at-preserved-in-Echo c =
-    let s = c in fault_part _ _ _ _ ((items_at _ _).percent s.loop-at-test.true s.if-format-at-eq37.true _ (sym s.parse_spec-parsed.ensures ∙ c.in-Echo.is)) refl
-    ∙ s.loop-at.invariant
+    fault_part _ _ _ _ ((items_at _ _).percent c.loop-at-test.true c.if-format-at-eq37.true _ (sym c.parse_spec-parsed.ensures ∙ c.in-Echo.is)) refl
+    ∙ c.loop-at.invariant
 
 pub returns-in-Cut : goal.returns-in-Cut
 unfolding fault
 returns-in-Cut c =
-    let s = c in fault_last _ _ _ ((items_at _ _).percent s.loop-at-test.true s.if-format-at-eq37.true _ (sym s.parse_spec-parsed.ensures ∙ c.in-Cut.is))
-    ∙ s.loop-at.invariant
+    fault_last _ _ _ ((items_at _ _).percent c.loop-at-test.true c.if-format-at-eq37.true _ (sym c.parse_spec-parsed.ensures ∙ c.in-Cut.is))
+    ∙ c.loop-at.invariant
 
 pub loop-at-smaller : goal.loop-at-smaller
 loop-at-smaller c =

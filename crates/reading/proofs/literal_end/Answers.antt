@@ -1,9 +1,5 @@
 -- From each byte before the percent sign the run ends where it ends from the first.
-use mathlib.Core.Path.{◌≡◌, refl, ◌∙◌}
-use Prim.Native.Nat.{◌-◌}
-use lib.ListN.{length}
-use borrow.Author.Rules.{rules}
-use Rattle.reading.specs.Literals.{literal_end}
+use mathlib.Core.Path.{refl, ◌∙◌}
 use Rattle.reading.proofs.Positions.{literal_none, literal_more, literal_past}
 use Rattle.reading.proofs.literal_end.Goals as goal
 

@@ -1,10 +1,8 @@
 -- From each byte before the percent sign the run ends where it ends from the first.
-use mathlib.Core.Path.{◌≡◌, refl, ◌∙◌}
+use mathlib.Core.Path.{◌≡◌}
 use Prim.Native.Nat.{◌-◌}
 use lib.ListN.{length}
-use borrow.Author.Rules.{rules}
 use Rattle.reading.specs.Literals.{literal_end}
-use Rattle.reading.proofs.Positions.{literal_none, literal_more, literal_past}
 use Rattle.reading.proofs.literal_end.Given as goal
 
 abbrev pub invariant-loop-at : goal.invariant-loop-at

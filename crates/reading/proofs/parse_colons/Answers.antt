@@ -1,11 +1,6 @@
 -- What is left, from the colons so far, is read as the whole is from the first.
-use mathlib.Core.Path.{◌≡◌, refl, ◌∙◌}
-use Prim.Native.Nat.{◌-◌}
-use lib.ListN.{length, drop}
-use borrow.Author.Rules.{rules}
-use Rattle.rules.specs.declared.Reading.TheVariants.{InColons}
+use mathlib.Core.Path.{refl, ◌∙◌}
 use Rattle.rules.specs.Reading.{open?}
-use Rattle.rules.specs.Format.{parse_from}
 use Rattle.reading.proofs.Laws.{by_turn, by_entry, at_end, colons_more, colons_offset, colons_other}
 use Rattle.reading.proofs.parse_colons.Goals as goal
 

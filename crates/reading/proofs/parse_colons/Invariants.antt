@@ -1,12 +1,9 @@
 -- What is left, from the colons so far, is read as the whole is from the first.
-use mathlib.Core.Path.{◌≡◌, refl, ◌∙◌}
+use mathlib.Core.Path.{◌≡◌}
 use Prim.Native.Nat.{◌-◌}
 use lib.ListN.{length, drop}
-use borrow.Author.Rules.{rules}
 use Rattle.rules.specs.declared.Reading.TheVariants.{InColons}
-use Rattle.rules.specs.Reading.{open?}
 use Rattle.rules.specs.Format.{parse_from}
-use Rattle.reading.proofs.Laws.{by_turn, by_entry, at_end, colons_more, colons_offset, colons_other}
 use Rattle.reading.proofs.parse_colons.Given as goal
 
 abbrev pub invariant-loop-at : goal.invariant-loop-at

@@ -3,18 +3,9 @@ use mathlib.Core.Path.{sym, ◌∙◌}
 use native.Mathlib.Omega.{arith}
 use borrow.Author.Rules.{rules}
 use Rattle.table.proofs.Laws.{impossible}
-use Rattle.reading.proofs.Laws.{by_entry, same_turn, letter_colon, letter_e, letter_o, letter_high, letter_entry}
+use Rattle.reading.proofs.Laws.{by_entry, same_turn, letter_colon, letter_e, letter_o, letter_entry}
 use Rattle.reading.proofs.parse_letter.Goals as goal
 
--- LOOK field match: ['in-58', 'in-69', 'in-79', 'in_default']
--- LOOK field match: ['in-58', 'in-69', 'in-79', 'in_default']
--- LOOK field match: ['in-58', 'in-69', 'in-79', 'in_default']
--- LOOK field match: ['in-58', 'in-69', 'in-79', 'in_default']
--- LOOK field match: ['in-58', 'in-69', 'in-79', 'in_default']
--- LOOK field match: ['in-58', 'in-69', 'in-79', 'in_default']
--- LOOK field match: ['in-58', 'in-69', 'in-79', 'in_default']
--- LOOK field match: ['in-58', 'in-69', 'in-79', 'in_default']
--- LOOK field match: ['in-58', 'in-69', 'in-79', 'in_default']
 pub returns-in-58 : goal.returns-in-58
 returns-in-58 c = c.parse_colons.ensures ∙ same_turn _ _ _ _ (letter_colon _ _ _ c.in-58.is)
 
@@ -24,14 +15,11 @@ returns-in-69 c = c.parse_modified.ensures ∙ same_turn _ _ _ _ (letter_e _ _ _
 pub returns-in-79 : goal.returns-in-79
 returns-in-79 c = c.parse_modified-in-79.ensures ∙ same_turn _ _ _ _ (letter_o _ _ _ c.in-79.is)
 
-pub returns-then-b-ge128 : goal.returns-then-b-ge128
-returns-then-b-ge128 c = same_turn _ _ _ _ (letter_high _ _ _ c.in-58.rest.0.0.1 c.in-58.rest.0.1 c.in-58.rest.1 (omega (arith, c.if-b-ge128.true)))
-
 pub returns-then-is_possible : goal.returns-then-is_possible
 returns-then-is_possible c =
-    let s = c in c.enter.ensures
-    ∙ by_entry _ _ _ _ _ _ _ c.spec_of.ensures _ (letter_entry _ _ _ s.in-58.rest.0.0.1 s.in-58.rest.0.1 s.in-58.rest.1 (omega (arith, s.if-b-ge128.false)))
+    c.enter.ensures
+    ∙ by_entry _ _ _ _ _ _ _ c.spec_of.ensures _ (letter_entry _ _ _ (search rules) (search rules) (search rules) (omega arith))
 
 pub returns-else-is_possible : goal.returns-else-is_possible
 returns-else-is_possible c =
-    let s = c in by_entry _ _ _ _ _ _ _ (sym (impossible _ (sym c.is_possible.ensures ∙ c.if-is_possible.false))) _ (letter_entry _ _ _ s.in-58.rest.0.0.1 s.in-58.rest.0.1 s.in-58.rest.1 (omega (arith, s.if-b-ge128.false)))
+    by_entry _ _ _ _ _ _ _ (sym (impossible _ (sym c.is_possible.ensures ∙ c.if-is_possible.false))) _ (letter_entry _ _ _ (search rules) (search rules) (search rules) (omega arith))

@@ -1,6 +1,5 @@
 -- The byte is skipped to or left unread, or the format ends.
 use mathlib.Core.Path.{refl, sym, ◌∙◌}
-use borrow.Author.Rules.{rules}
 use Rattle.rules.specs.Reading.{open?}
 use Rattle.reading.proofs.Laws.{by_turn, by_entry, at_end, modifier_skipped, modifier_stays}
 use Rattle.reading.proofs.parse_modified.Goals as goal

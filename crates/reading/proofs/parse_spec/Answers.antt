@@ -1,11 +1,6 @@
 -- What is left, with the options so far, is read as the whole is from the outset.
-use mathlib.Core.Path.{◌≡◌, refl, sym, ◌∙◌}
-use Prim.Native.Nat.{◌-◌}
-use lib.ListN.{length, drop}
-use borrow.Author.Rules.{rules}
-use Rattle.rules.specs.declared.Reading.TheVariants.{InFlags}
-use Rattle.rules.specs.Reading.{outset, open?}
-use Rattle.rules.specs.Format.{parse_from}
+use mathlib.Core.Path.{refl, sym, ◌∙◌}
+use Rattle.rules.specs.Reading.{open?}
 use Rattle.reading.proofs.Laws.{by_turn, at_end, flags_flag, flags_digit, flags_letter}
 use Rattle.reading.proofs.parse_spec.Goals as goal
 
@@ -17,22 +12,15 @@ width_with-requires c = sym c.is_digit.ensures ∙ c.if-is_digit.true
 
 pub returns-then-is_digit : goal.returns-then-is_digit
 returns-then-is_digit c =
-    let after-is-digit = c in let after-enum-told = after-is-digit in
-    let after-flag-step = after-enum-told in
-    let after-loop-test = after-flag-step in
-    let after-loop = after-loop-test in
     c.parse_width.ensures
-    ∙ by_turn _ _ _ after-loop-test.loop-at-test.true _ (flags_digit _ _ _ after-flag-step.flag_step.ensures after-enum-told.in_default.is (sym after-is-digit.is_digit.ensures ∙ c.if-is_digit.true) _ c.width_with.ensures)
-    ∙ after-loop.loop-at.invariant
+    ∙ by_turn _ _ _ c.loop-at-test.true _ (flags_digit _ _ _ c.flag_step.ensures c.in_default.is (sym c.is_digit.ensures ∙ c.if-is_digit.true) _ c.width_with.ensures)
+    ∙ c.loop-at.invariant
 
 pub returns-in_default : goal.returns-in_default
 returns-in_default c =
-    let after-enum-told = c in let after-flag-step = after-enum-told in
-    let after-loop-test = after-flag-step in
-    let after-loop = after-loop-test in
     c.parse_letter.ensures
-    ∙ by_turn _ _ _ after-loop-test.loop-at-test.true _ (flags_letter _ _ _ after-flag-step.flag_step.ensures after-enum-told.in_default.is (sym c.is_digit.ensures ∙ c.if-is_digit.false))
-    ∙ after-loop.loop-at.invariant
+    ∙ by_turn _ _ _ c.loop-at-test.true _ (flags_letter _ _ _ c.flag_step.ensures c.in_default.is (sym c.is_digit.ensures ∙ c.if-is_digit.false))
+    ∙ c.loop-at.invariant
 
 pub loop-at-preserved : goal.loop-at-preserved
 loop-at-preserved c = by_turn _ _ _ c.loop-at-test.true _ (flags_flag _ _ _ c.flag_step.ensures _ c.in-Flag.is) ∙ c.loop-at.invariant

@@ -1,12 +1,10 @@
 -- What is left, with the options so far, is read as the whole is from the outset.
-use mathlib.Core.Path.{◌≡◌, refl, sym, ◌∙◌}
+use mathlib.Core.Path.{◌≡◌}
 use Prim.Native.Nat.{◌-◌}
 use lib.ListN.{length, drop}
-use borrow.Author.Rules.{rules}
 use Rattle.rules.specs.declared.Reading.TheVariants.{InFlags}
-use Rattle.rules.specs.Reading.{outset, open?}
+use Rattle.rules.specs.Reading.{outset}
 use Rattle.rules.specs.Format.{parse_from}
-use Rattle.reading.proofs.Laws.{by_turn, at_end, flags_flag, flags_digit, flags_letter}
 use Rattle.reading.proofs.parse_spec.Given as goal
 
 abbrev pub invariant-loop-at : goal.invariant-loop-at

@@ -1,12 +1,7 @@
 -- What is left, from the width so far, is read as the whole is from the first digit.
-use mathlib.Core.Path.{◌≡◌, refl, sym, ap, ◌∙◌}
+use mathlib.Core.Path.{refl, sym, ap, ◌∙◌}
 use mathlib.Core.Bool.{not}
-use Prim.Native.Nat.{◌-◌}
-use lib.ListN.{length, drop}
-use borrow.Author.Rules.{rules}
-use Rattle.rules.specs.declared.Reading.TheVariants.{InWidth}
 use Rattle.rules.specs.Reading.{open?}
-use Rattle.rules.specs.Format.{parse_from}
 use Rattle.reading.proofs.Laws.{by_turn, at_end, width_digit, width_wide, width_letter}
 use Rattle.reading.proofs.parse_width.Goals as goal
 
@@ -26,12 +21,9 @@ returns-then-too_wide c =
 
 pub returns-else-is_digit : goal.returns-else-is_digit
 returns-else-is_digit c =
-    let after-if1 = c in let after-is-digit = after-if1 in
-    let after-loop-test = after-is-digit in
-    let after-loop = after-loop-test in
     c.parse_letter.ensures
-    ∙ by_turn _ _ _ after-loop-test.loop-at-test.true _ (width_letter _ _ _ (sym after-is-digit.is_digit.ensures ∙ after-if1.if-is_digit.false) (sym c.too_wide.ensures ∙ c.if-too_wide.false))
-    ∙ after-loop.loop-at.invariant
+    ∙ by_turn _ _ _ c.loop-at-test.true _ (width_letter _ _ _ (sym c.is_digit.ensures ∙ c.if-is_digit.false) (sym c.too_wide.ensures ∙ c.if-too_wide.false))
+    ∙ c.loop-at.invariant
 
 pub returns-then-too_wide-2 : goal.returns-then-too_wide-2
 unfolding open?

@@ -1,13 +1,9 @@
 -- What is left, from the width so far, is read as the whole is from the first digit.
-use mathlib.Core.Path.{◌≡◌, refl, sym, ap, ◌∙◌}
-use mathlib.Core.Bool.{not}
+use mathlib.Core.Path.{◌≡◌}
 use Prim.Native.Nat.{◌-◌}
 use lib.ListN.{length, drop}
-use borrow.Author.Rules.{rules}
 use Rattle.rules.specs.declared.Reading.TheVariants.{InWidth}
-use Rattle.rules.specs.Reading.{open?}
 use Rattle.rules.specs.Format.{parse_from}
-use Rattle.reading.proofs.Laws.{by_turn, at_end, width_digit, width_wide, width_letter}
 use Rattle.reading.proofs.parse_width.Given as goal
 
 abbrev pub invariant-loop-at : goal.invariant-loop-at

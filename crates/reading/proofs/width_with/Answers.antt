@@ -1,5 +1,4 @@
 -- A width that is too wide stays so; of any other the sum fits.
-use borrow.Author.Rules.{rules}
 use Rattle.rules.proofs.RecordLaws.{ends}
 use Rattle.reading.proofs.width_with.Goals as goal
 

@@ -1,11 +1,8 @@
 -- What is left of the directives answers as all of them do.
-use mathlib.Core.Path.{◌≡◌, refl, ◌∙◌}
+use mathlib.Core.Path.{◌≡◌}
 use Prim.Native.Nat.{◌+◌, ◌*◌, ◌≤◌}
-use native.Mathlib.Omega.{arith}
 use lib.ListN.{length, drop}
 use Rattle.rules.specs.Stored.{entries_taken}
-use Rattle.sections.proofs.EntriesLaws.{entries_stop, entries_next, entries_end}
-use borrow.Author.Rules.{rules}
 use Rattle.sections.proofs.entries_taken.Given as goal
 
 abbrev pub invariant-loop-left : goal.invariant-loop-left

@@ -1,12 +1,8 @@
 -- What is left of the steps answers as all of them do.
-use mathlib.Core.Path.{◌≡◌, refl, ap, ◌∙◌}
-use mathlib.Core.Logic.{⊎_elim}
+use mathlib.Core.Path.{◌≡◌}
 use Prim.Native.Nat.{◌+◌, ◌*◌, ◌≤◌}
-use native.Mathlib.Omega.{arith}
 use lib.ListN.{length, drop}
 use Rattle.rules.specs.Stored.{steps_taken}
-use Rattle.sections.proofs.StepLaws.{text_passes, text_next, no_section, piece_passes, piece_next, steps_end}
-use borrow.Author.Rules.{rules}
 use Rattle.sections.proofs.steps_taken.Given as goal
 
 abbrev pub invariant-loop-left : goal.invariant-loop-left

@@ -10,20 +10,28 @@ use Rattle.rules.proofs.FormatLaws.{runs, format_too_long, zone_too_long, buffer
 use Rattle.rules.proofs.Promised.{declined}
 use Rattle.text.proofs.PlaceLaws.{refused_yes, refused_no}
 use Rattle.strftime.proofs.EntryOutcomes.{refusal_known, refused_there, done_there}
-use borrow.Author.Rules.{rules}
 use Rattle.strftime.proofs.format.Goals as goal
 
 abbrev scratch : List ℕ
 scratch = replicate 192 0
 
 pub returns-then-format-gt-LONGEST_FORMAT : goal.returns-then-format-gt-LONGEST_FORMAT
-returns-then-format-gt-LONGEST_FORMAT c = declined _ (format_too_long _ _ _ _ c.if-format-gt-LONGEST_FORMAT.true)
+returns-then-format-gt-LONGEST_FORMAT c =
+    let b = c.args.buffer.now in
+    let w = declined b (format_too_long c.args.format.now c.args.zone.now c.args.record (length b) c.if-format-gt-LONGEST_FORMAT.true) in
+    record { answer = w.0; buffer = w.1 }
 
 pub returns-then-zone-gt-LONGEST_ZONE : goal.returns-then-zone-gt-LONGEST_ZONE
-returns-then-zone-gt-LONGEST_ZONE c = declined _ (zone_too_long _ _ _ _ c.if-format-gt-LONGEST_FORMAT.false c.if-zone-gt-LONGEST_ZONE.true)
+returns-then-zone-gt-LONGEST_ZONE c =
+    let b = c.args.buffer.now in
+    let w = declined b (zone_too_long c.args.format.now c.args.zone.now c.args.record (length b) c.if-format-gt-LONGEST_FORMAT.false c.if-zone-gt-LONGEST_ZONE.true) in
+    record { answer = w.0; buffer = w.1 }
 
 pub returns-then-room-gt-LONGEST_BUFFER : goal.returns-then-room-gt-LONGEST_BUFFER
-returns-then-room-gt-LONGEST_BUFFER c = declined _ (buffer_too_long _ _ _ _ c.if-format-gt-LONGEST_FORMAT.false c.if-zone-gt-LONGEST_ZONE.false c.if-room-gt-LONGEST_BUFFER.true)
+returns-then-room-gt-LONGEST_BUFFER c =
+    let b = c.args.buffer.now in
+    let w = declined b (buffer_too_long c.args.format.now c.args.zone.now c.args.record (length b) c.if-format-gt-LONGEST_FORMAT.false c.if-zone-gt-LONGEST_ZONE.false c.if-room-gt-LONGEST_BUFFER.true) in
+    record { answer = w.0; buffer = w.1 }
 
 pub slice_bounds-stamp-end : goal.slice_bounds-stamp-end
 slice_bounds-stamp-end c = sym (length-take-le _ scratch (omega (arith, c.part_of-part.ensures)))
@@ -43,9 +51,10 @@ refusal_at-requires c = refusal_known c.stamp-end.ensures (numbered_items ByEven
 
 pub returns-then-is_refused : goal.returns-then-is_refused
 returns-then-is_refused c =
-    refused_there c.stamp-end.ensures (runs _ _ _ _ c.if-format-gt-LONGEST_FORMAT.false c.if-zone-gt-LONGEST_ZONE.false c.if-room-gt-LONGEST_BUFFER.false) _
-    (refused_yes _ c.is_refused.ensures c.if-is_refused.true) c.refusal_at_lem.ensures
+    let w = refused_there c.stamp-end.ensures (runs _ _ _ _ c.if-format-gt-LONGEST_FORMAT.false c.if-zone-gt-LONGEST_ZONE.false c.if-room-gt-LONGEST_BUFFER.false) c.refusal_at.result (refused_yes _ c.is_refused.ensures c.if-is_refused.true) c.refusal_at.ensures in
+    record { answer = w.0; buffer = w.1 }
 
 pub returns : goal.returns
 returns c =
-    done_there c.stamp-end.ensures (runs _ _ _ _ c.if-format-gt-LONGEST_FORMAT.false c.if-zone-gt-LONGEST_ZONE.false c.if-room-gt-LONGEST_BUFFER.false) (refused_no _ c.is_refused.ensures c.if-is_refused.false)
+    let w = done_there c.stamp-end.ensures (runs _ _ _ _ c.if-format-gt-LONGEST_FORMAT.false c.if-zone-gt-LONGEST_ZONE.false c.if-room-gt-LONGEST_BUFFER.false) (refused_no _ c.is_refused.ensures c.if-is_refused.false) in
+    record { answer = w.0; buffer = w.1 }

@@ -1,8 +1,6 @@
 -- Each turn leaves the half in which alone the byte can stand.
-use Prim.Native.Nat.{◌-◌}
 use native.Mathlib.Omega.{arith}
-use borrow.Author.Rules.{rules}
-use Rattle.table.proofs.Sorted.{member_at, Between, all_between, upper_half, lower_half, nowhere}
+use Rattle.table.proofs.Sorted.{member_at, all_between, upper_half, lower_half, nowhere}
 use Rattle.table.proofs.is_among.Goals as goal
 
 pub loop-low-init : goal.loop-low-init

@@ -1,7 +1,6 @@
 -- A byte of the format, or the default past its end.
 use mathlib.Core.Path.{sym}
 use lib.ListN.{get_or-eq_default}
-use borrow.Author.Rules.{rules}
 use Rattle.walk.proofs.byte_at.Goals as goal
 
 pub returns : goal.returns

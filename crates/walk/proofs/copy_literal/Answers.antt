@@ -1,18 +1,11 @@
 -- The loop keeps `Copied`, and its place is as far on as its position.
-use mathlib.Core.Path.{◌≡◌}
-use Prim.Native.Nat.{◌+◌, ◌-◌}
 use native.Mathlib.Omega.{arith}
-use lib.ListN.{length}
 use borrow.Author.Tests.{ltb-true}
-use Rattle.walk.specs.Stamp.{Copied}
 use Rattle.walk.proofs.LiteralLaws.{copied_none, copied_kept, copied_more}
 use Rattle.walk.proofs.copy_literal.Goals as goal
 
 pub loop-i-init : goal.loop-i-init
 loop-i-init c = (copied_none c.requires.1 c.requires.0, omega arith)
-
-pub shape_of-out-then-format-i-eq37 : goal.shape_of-out-then-format-i-eq37
-shape_of-out-then-format-i-eq37 c = copied_kept c.loop-i.invariant.0
 
 pub returns-then-format-i-eq37 : goal.returns-then-format-i-eq37
 returns-then-format-i-eq37 c = c.loop-i.invariant.0
@@ -29,14 +22,8 @@ loop-i-preserved c =
     let more = copied_more w.0 c.loop-i-test.true c.if-format-i-eq37.false w.1 (omega (arith, copied_kept w.0, ltb-true)) in
     (more, omega (arith, w.0.onward, w.1))
 
-pub shape_of-out-else-at-out : goal.shape_of-out-else-at-out
-shape_of-out-else-at-out c = copied_kept c.loop-i.invariant.0
-
 pub returns-else-at-out : goal.returns-else-at-out
 returns-else-at-out c = c.loop-i.invariant.0
-
-pub shape_of-out-after-loop-i : goal.shape_of-out-after-loop-i
-shape_of-out-after-loop-i c = copied_kept c.loop-i.invariant.0
 
 pub returns-after-loop-i : goal.returns-after-loop-i
 returns-after-loop-i c = c.loop-i.invariant.0

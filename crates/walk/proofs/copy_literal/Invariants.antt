@@ -1,11 +1,8 @@
 -- The loop keeps `Copied`, and its place is as far on as its position.
 use mathlib.Core.Path.{◌≡◌}
 use Prim.Native.Nat.{◌+◌, ◌-◌}
-use native.Mathlib.Omega.{arith}
 use lib.ListN.{length}
-use borrow.Author.Tests.{ltb-true}
 use Rattle.walk.specs.Stamp.{Copied}
-use Rattle.walk.proofs.LiteralLaws.{copied_none, copied_kept, copied_more}
 use Rattle.walk.proofs.copy_literal.Given as goal
 
 abbrev pub invariant-loop-i : goal.invariant-loop-i

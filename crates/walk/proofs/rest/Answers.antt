@@ -1,7 +1,6 @@
 -- Refused: the count says so, and the buffer was never lent. Else the front is copied, and the second run comes to the same place.
 use Rattle.text.proofs.PlaceLaws.{refused_yes, refused_no}
 use Rattle.walk.proofs.StampLaws.{rest_refused, rest_written}
-use borrow.Author.Rules.{rules}
 use Rattle.walk.proofs.rest.Goals as goal
 
 pub returns-then-is_refused : goal.returns-then-is_refused

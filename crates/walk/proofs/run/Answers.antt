@@ -1,5 +1,4 @@
 -- The rest of the format from its start is all of it.
-use borrow.Author.Rules.{rules}
 use Rattle.walk.proofs.run.Goals as goal
 
 pub returns : goal.returns

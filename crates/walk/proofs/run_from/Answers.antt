@@ -1,13 +1,10 @@
 -- The loop keeps `Walked`; each turn is one of its steps.
-use Prim.Native.Nat.{◌-◌}
 use native.Mathlib.Omega.{arith}
-use lib.ListN.{length}
-use Rattle.text.proofs.RanLaws.{kept, room_kept}
+use Rattle.text.proofs.RanLaws.{room_kept}
 use Rattle.reading.proofs.Positions.{items_at}
 use Rattle.letters.proofs.LetterLaws.{was_letter, left_alone, room_left}
 use Rattle.walk.proofs.LetterLaws.{step_plain, step_unread}
-use Rattle.walk.proofs.WalkLaws.{Walked, walk_start, walk_item, walk_literals, walk_end}
-use borrow.Author.Rules.{rules}
+use Rattle.walk.proofs.WalkLaws.{walk_start, walk_item, walk_literals, walk_end}
 use Rattle.walk.proofs.run_from.Goals as goal
 
 pub loop-i-init : goal.loop-i-init
@@ -41,9 +38,6 @@ loop-i-smaller c =
 
 pub loop-i-preserved : goal.loop-i-preserved
 loop-i-preserved c = walk_literals c.loop-i.invariant ((items_at _ _).run c.loop-i-test.true c.if-format-i-eq37.false _ c.literal_end-end.ensures) (c.put_part-at.ensures _)
-
-pub shape_of-out : goal.shape_of-out
-shape_of-out c = kept c.loop-i.invariant.ran
 
 pub returns : goal.returns
 returns c = walk_end c.loop-i-test.false c.loop-i.invariant

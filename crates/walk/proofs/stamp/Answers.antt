@@ -1,14 +1,10 @@
 -- The loop keeps `Stamping`. An item that ends within the scratch is one of its steps; from any other, `rest` goes on.
-use mathlib.Core.Path.{ap}
-use Prim.Native.Nat.{◌-◌}
 use native.Mathlib.Omega.{arith}
-use lib.ListN.{length}
 use Rattle.text.proofs.RanLaws.{before, kept}
 use Rattle.letters.proofs.LetterLaws.{left_alone, length_left, room_left, ended_within, front_left}
 use Rattle.walk.proofs.LetterLaws.{step_plain, step_unread}
 use Rattle.walk.proofs.LiteralLaws.{copied_kept, copied_before}
-use Rattle.walk.proofs.StampLaws.{Stamping, stamping_start, stamping_room, stamping_item, stamping_literals, handed_over, handed_back, stamping_copies, stamping_end}
-use borrow.Author.Rules.{rules}
+use Rattle.walk.proofs.StampLaws.{stamping_start, stamping_room, stamping_item, stamping_literals, handed_over, handed_back, stamping_copies, stamping_end}
 use Rattle.walk.proofs.stamp.Goals as goal
 
 pub loop-i-init : goal.loop-i-init
@@ -31,16 +27,10 @@ rest-requires c =
     let w = step_unread (left_alone c.letter-place.ensures c.requires.buffer_fits c.if-place-eq-NOT_A_LETTER.true) c.marked_item-step.ensures in
     handed_over c.requires c.loop-i.invariant (before w.ran) (kept w.ran) c.limit_of-limit.ensures
 
-pub shape_of-buffer-then-out-step : goal.shape_of-buffer-then-out-step
-shape_of-buffer-then-out-step c = omega (arith, c.buffer-1.given, ap length c.loop-i.invariant.buffer)
-
 pub returns-then-out-step : goal.returns-then-out-step
 returns-then-out-step c =
     let w = step_unread (left_alone c.letter-place.ensures c.requires.buffer_fits c.if-place-eq-NOT_A_LETTER.true) c.marked_item-step.ensures in
     handed_back c.requires c.loop-i.invariant (kept w.ran) c.rest.ensures
-
-pub shape_of-out-then-out-step : goal.shape_of-out-then-out-step
-shape_of-out-then-out-step c = (returns-then-out-step c).scratch
 
 pub loop-i-smaller-then-place-eq-NOT_A_LETTER : goal.loop-i-smaller-then-place-eq-NOT_A_LETTER
 loop-i-smaller-then-place-eq-NOT_A_LETTER c = omega (arith, c.marked_item-step.ensures.onward, c.marked_item-step.ensures.within)
@@ -53,14 +43,8 @@ pub rest-requires-else-place-eq-NOT_A_LETTER : goal.rest-requires-else-place-eq-
 rest-requires-else-place-eq-NOT_A_LETTER c =
     handed_over c.requires c.loop-i.invariant (front_left c.letter-place.ensures) (length_left c.letter-place.ensures) c.limit_of-limit.ensures
 
-pub shape_of-buffer-else-place-eq-NOT_A_LETTER : goal.shape_of-buffer-else-place-eq-NOT_A_LETTER
-shape_of-buffer-else-place-eq-NOT_A_LETTER c = omega (arith, c.buffer-else-place-eq-NOT_A_LETTER-1.given, ap length c.loop-i.invariant.buffer)
-
 pub returns-else-place-eq-NOT_A_LETTER : goal.returns-else-place-eq-NOT_A_LETTER
 returns-else-place-eq-NOT_A_LETTER c = handed_back c.requires c.loop-i.invariant (length_left c.letter-place.ensures) c.rest-else-place-eq-NOT_A_LETTER.ensures
-
-pub shape_of-out-else-place-eq-NOT_A_LETTER : goal.shape_of-out-else-place-eq-NOT_A_LETTER
-shape_of-out-else-place-eq-NOT_A_LETTER c = (returns-else-place-eq-NOT_A_LETTER c).scratch
 
 pub copy_literal-end-requires : goal.copy_literal-end-requires
 copy_literal-end-requires c = (c.loop-i.invariant.begun.front.inside, c.loop-i.invariant.begun.within)
@@ -69,14 +53,8 @@ pub rest-requires-then-end-i : goal.rest-requires-then-end-i
 rest-requires-then-end-i c =
     handed_over c.requires c.loop-i.invariant (copied_before c.copy_literal-end.ensures) (copied_kept c.copy_literal-end.ensures) c.limit_of-limit.ensures
 
-pub shape_of-buffer-then-end-i : goal.shape_of-buffer-then-end-i
-shape_of-buffer-then-end-i c = omega (arith, c.buffer-then-end-i-1.given, ap length c.loop-i.invariant.buffer)
-
 pub returns-then-end-i : goal.returns-then-end-i
 returns-then-end-i c = handed_back c.requires c.loop-i.invariant (copied_kept c.copy_literal-end.ensures) c.rest-then-end-i.ensures
-
-pub shape_of-out-then-end-i : goal.shape_of-out-then-end-i
-shape_of-out-then-end-i c = (returns-then-end-i c).scratch
 
 pub overflow_sub-at : goal.overflow_sub-at
 overflow_sub-at c = omega (arith, c.copy_literal-end.ensures.onward)
@@ -93,11 +71,5 @@ loop-i-preserved c = stamping_literals c.requires c.loop-i.invariant c.copy_lite
 pub copy_front-requires : goal.copy_front-requires
 copy_front-requires c = stamping_copies c.requires c.loop-i.invariant
 
-pub shape_of-buffer : goal.shape_of-buffer
-shape_of-buffer c = omega (arith, c.buffer-2-1.given, ap length c.loop-i.invariant.buffer)
-
 pub returns : goal.returns
 returns c = stamping_end c.requires c.loop-i.invariant c.loop-i-test.false c.limit_of-limit.ensures c.copy_front.ensures
-
-pub shape_of-out : goal.shape_of-out
-shape_of-out c = (returns c).scratch

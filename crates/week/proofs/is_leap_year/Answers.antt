@@ -1,16 +1,6 @@
 -- `is_leap_year` tests remainders with the year's sign, the rules floor remainders: they are 0 alike.
-use native.Mathlib.Omega.{arith}
-use Rattle.week.proofs.Years.{quot_fits, leap_by_400, leap_by_4, leap_not}
+use Rattle.week.proofs.Years.{leap_by_400, leap_by_4, leap_not}
 use Rattle.week.proofs.is_leap_year.Goals as goal
-
-pub nonzero_rem-year : goal.nonzero_rem-year
-nonzero_rem-year c = (omega arith, quot_fits 400 c.ranges.year)
-
-pub nonzero_rem-year-else-year-eq0 : goal.nonzero_rem-year-else-year-eq0
-nonzero_rem-year-else-year-eq0 c = (omega arith, quot_fits 4 c.ranges.year)
-
-pub nonzero_rem-result : goal.nonzero_rem-result
-nonzero_rem-result c = (omega arith, quot_fits 100 c.ranges.year)
 
 pub returns-then-year-eq0 : goal.returns-then-year-eq0
 returns-then-year-eq0 c = leap_by_400 c.ranges.year c.if-year-eq0.true

@@ -4,7 +4,6 @@ use mathlib.Core.Path.{ap, ◌∙◌, subst⁻¹}
 use Prim.Native.Nat.{◌+◌, ◌-◌, ◌/◌}
 use native.Mathlib.Omega.{arith}
 use lib.IntN.{ℤ, pos, nat_abs}
-use borrow.Author.Rules.{rules}
 use Rattle.rules.specs.declared.IsoWeek.{IsoWeek}
 use Rattle.rules.specs.Week.{YearAndWeek, iso8601_year_and_week_number}
 use Rattle.rules.proofs.WeekLaws.{iso_original}
@@ -45,11 +44,11 @@ returns-then-week-lt52 c =
     let s = c in let a = s.args in
     let p = s.requires in
     let q = c.start_of_first_week-start.ensures in
-    ap (λ (y : ℤ). record { year = y; week = (a.year-day-1 - 1 + 14 - c.start_of_first_week-start.result) / 7 }) (widened _ s.ranges.year)
+    ap (λ (y : ℤ). record { year = y; week = (a.year_day_1 - 1 + 14 - c.start_of_first_week-start.result) / 7 }) (widened _ s.ranges.year)
     ∙ ap back
     (below_52 _ _ _ _ (week_one_lem _ _ _ _ _ (once (goal.at.returns-then-week-lt52 s).Start) q) c.if-week-lt52.true
     ∙ begun _ _ _ _ _ (once (goal.at.returns-then-week-lt52 s).Start) q c.if-start-year_day.true
-    ∙ iso_original a.year a.week-day a.year-day-1 p.0 p.1 p.2)
+    ∙ iso_original a.year a.week_day a.year_day_1 p.0 p.1 p.2)
 
 pub overflow_cast-year : goal.overflow_cast-year
 overflow_cast-year c = widens _ c.ranges.year
@@ -64,5 +63,5 @@ returns c =
     let p = s.requires in
     ap back
     (c.year_and_week_number.ensures
-    ∙ ap (λ (z : ℤ). iso8601_year_and_week_number 1 z (pos a.week-day) (pos a.year-day-1)) (widened _ s.ranges.year)
-    ∙ iso_original a.year a.week-day a.year-day-1 p.0 p.1 p.2)
+    ∙ ap (λ (z : ℤ). iso8601_year_and_week_number 1 z (pos a.week_day) (pos a.year_day_1)) (widened _ s.ranges.year)
+    ∙ iso_original a.year a.week_day a.year_day_1 p.0 p.1 p.2)

@@ -1,19 +1,19 @@
 -- The tests of the rule, one by one.
+use native.Mathlib.Omega.{arith}
 use Rattle.codes.proofs.EntryLaws.{bad_code, only_code, bad_padding, bad_flags, by_width}
-use borrow.Author.Rules.{rules}
 use Rattle.codes.proofs.entry.entry_taken.Goals as goal
 
 pub returns-then-not-is_known : goal.returns-then-not-is_known
-returns-then-not-is_known c = bad_code c.args.s.now c.args.at c.is_Known.ensures c.if-not-is_known.true
+returns-then-not-is_known c = bad_code c.args.s.now c.args.at c.is_known.ensures c.if-not-is_known.true
 
 pub returns-then-eight_at-lt256 : goal.returns-then-eight_at-lt256
-returns-then-eight_at-lt256 c = only_code c.args.s.now c.args.at c.is_Known.ensures c.if-not-is_known.false c.eight_at.ensures c.if-eight_at-lt256.true
+returns-then-eight_at-lt256 c = only_code c.args.s.now c.args.at c.is_known.ensures c.if-not-is_known.false c.eight_at.ensures c.if-eight_at-lt256.true
 
 pub returns-then-s-at-gt2 : goal.returns-then-s-at-gt2
-returns-then-s-at-gt2 c = bad_padding c.args.s.now c.args.at c.is_Known.ensures c.if-not-is_known.false c.if-s-at-gt2.true
+returns-then-s-at-gt2 c = bad_padding c.args.s.now c.args.at c.is_known.ensures c.if-not-is_known.false c.if-s-at-gt2.true
 
 pub returns-then-s-at-gt7 : goal.returns-then-s-at-gt7
-returns-then-s-at-gt7 c = bad_flags c.args.s.now c.args.at c.is_Known.ensures c.if-not-is_known.false c.if-s-at-gt2.false c.if-s-at-gt7.true
+returns-then-s-at-gt7 c = bad_flags c.args.s.now c.args.at c.is_known.ensures c.if-not-is_known.false c.if-s-at-gt2.false (omega arith)
 
 pub returns : goal.returns
-returns c = by_width c.args.s.now c.args.at c.is_Known.ensures c.if-not-is_known.false c.if-s-at-gt2.false c.if-s-at-gt7.false c.four_at.ensures c.width_taken_lem.ensures
+returns c = by_width c.args.s.now c.args.at c.is_known.ensures c.if-not-is_known.false c.if-s-at-gt2.false (omega arith) c.four_at.ensures c.width_taken.ensures

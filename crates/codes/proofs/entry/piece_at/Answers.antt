@@ -1,6 +1,5 @@
 -- Field by field.
 use Rattle.codes.proofs.EntryLaws.{piece_of}
-use borrow.Author.Rules.{rules}
 use Rattle.codes.proofs.entry.piece_at.Goals as goal
 
 pub returns : goal.returns
