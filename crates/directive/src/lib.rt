@@ -12,6 +12,7 @@ use offset_directive::offset;
 use printing::width_or;
 use rules::{Piece, Record, Spec};
 
+#[tactic(auto, unfolding(rules::specs::Writing::events_of))]
 pub fn directive(
     out: &mut [u8],
     at: usize,

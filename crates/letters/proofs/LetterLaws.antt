@@ -10,16 +10,16 @@ use Rattle.rules.specs.declared.Record.{Record}
 use Rattle.text.specs.Room.{Room}
 use Rattle.text.proofs.PlaceLaws.{reach_no, count_no}
 use Rattle.text.proofs.RanLaws.{still, reach_small, kept, before}
-use Rattle.letters.specs.Letter.{RanLetter, not_aLetter, Lettered}
+use Rattle.letters.specs.Letter.{RanLetter, not_a_letter, Lettered}
 
 module _ {limit room b : ℕ} {r : Record} {zone l l' : List ℕ} {n n' : ℕ} where
   -- any other place is that of a letter
-  pub was_letter : Lettered limit room b r zone l n l' n' → (n' ≡ not_aLetter → ⊥) → RanLetter limit room b r zone l n l' n'
+  pub was_letter : Lettered limit room b r zone l n l' n' → (n' ≡ not_a_letter → ⊥) → RanLetter limit room b r zone l n l' n'
   was_letter (inl w) f = w
   was_letter (inr h) f = absurd (f h.0)
 
   -- the answer that it is none comes with no byte: a letter's run from a place that isn't refused never comes so far
-  pub left_alone : Lettered limit room b r zone l n l' n' → room ≤ 65536 → n' ≡ not_aLetter → l' ≡ l
+  pub left_alone : Lettered limit room b r zone l n l' n' → room ≤ 65536 → n' ≡ not_a_letter → l' ≡ l
   left_alone (inl w) h e =
       elim (dec_lt 65536 n) [
         | yes g ↦ still w.ran g

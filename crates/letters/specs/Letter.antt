@@ -19,9 +19,9 @@ pub record RanLetter (limit room b : ℕ) (r : Record) (zone l : List ℕ) (n : 
   pub ran : RanPlain limit room spec r zone l n l' n'
 
 -- the answer for a byte that is no letter: one less than the unit of a refused place, so further than any text comes
-abbrev pub not_aLetter : ℕ
-not_aLetter = 131071
+abbrev pub not_a_letter : ℕ
+not_a_letter = 131071
 
 -- a letter has run; or the answer is that it is none, and no byte was written
 abbrev pub Lettered : ℕ → ℕ → ℕ → Record → List ℕ → List ℕ → ℕ → List ℕ → ℕ → Type 0
-Lettered limit room b r zone l n l' n' = RanLetter limit room b r zone l n l' n' ⊎ ((n' ≡ not_aLetter) × (l' ≡ l))
+Lettered limit room b r zone l n l' n' = RanLetter limit room b r zone l n l' n' ⊎ ((n' ≡ not_a_letter) × (l' ≡ l))

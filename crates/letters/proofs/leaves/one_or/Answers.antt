@@ -2,7 +2,6 @@
 use Prim.Native.Nat.{◌<◌}
 use native.Mathlib.Omega.{arith}
 use lib.Dec.{lit≤}
-use borrow.Author.Rules.{rules}
 use Rattle.text.proofs.JudgedLaws.{verdict_held}
 use Rattle.combination_directive.proofs.CombinedLaws.{judgeable}
 use Rattle.letters.proofs.LeafLaws.{refused, written, one_digit}
@@ -20,9 +19,6 @@ returns-then-verdict-ne0 c = refused _ _ _ _ c.verdict-verdict.ensures c.if-verd
 
 pub overflow_add-v : goal.overflow_add-v
 overflow_add-v c = omega (arith, few (goal.at.overflow_add-v c).Else-verdict-ne0)
-
-pub put_byte-requires : goal.put_byte-requires
-put_byte-requires c = c.requires.0
 
 pub returns : goal.returns
 returns c = written _ _ _ _ c.verdict-verdict.ensures c.if-verdict-ne0.false (lit≤ tt) (one_digit _ (few (goal.at.returns c).Else-verdict-ne0)) c.put_byte.ensures

@@ -1,7 +1,6 @@
 -- The check, and two places of which the first may be a space.
 use Prim.Native.Nat.{◌<◌}
 use lib.Dec.{lit≤}
-use borrow.Author.Rules.{rules}
 use Rattle.text.proofs.JudgedLaws.{verdict_held}
 use Rattle.combination_directive.proofs.CombinedLaws.{judgeable}
 use Rattle.letters.proofs.LeafLaws.{refused, written}
@@ -19,9 +18,6 @@ returns-then-verdict-ne0 c = refused _ _ _ _ c.verdict-verdict.ensures c.if-verd
 
 pub spaced_digits-digits-requires : goal.spaced_digits-digits-requires
 spaced_digits-digits-requires c = few (goal.at.spaced_digits-digits-requires c).Else-verdict-ne0
-
-pub put-requires : goal.put-requires
-put-requires c = c.requires.0
 
 pub returns : goal.returns
 returns c = written _ _ _ _ c.verdict-verdict.ensures c.if-verdict-ne0.false (lit≤ tt) c.spaced_digits-digits.ensures c.put.ensures

@@ -1,7 +1,6 @@
 -- The check, and three digits.
 use Prim.Native.Nat.{◌<◌}
 use lib.Dec.{lit≤}
-use borrow.Author.Rules.{rules}
 use Rattle.text.proofs.JudgedLaws.{verdict_held}
 use Rattle.combination_directive.proofs.CombinedLaws.{judgeable}
 use Rattle.letters.proofs.LeafLaws.{refused, written, as_places}
@@ -16,9 +15,6 @@ judged-requires c = judgeable _ c.verdict-verdict.ensures
 
 pub returns-then-verdict-ne0 : goal.returns-then-verdict-ne0
 returns-then-verdict-ne0 c = refused _ _ _ _ c.verdict-verdict.ensures c.if-verdict-ne0.true c.judged.ensures
-
-pub put_places-requires : goal.put_places-requires
-put_places-requires c = c.requires.0
 
 pub returns : goal.returns
 returns c = written _ _ _ _ c.verdict-verdict.ensures c.if-verdict-ne0.false (lit≤ tt) (as_places 3 _ (few (goal.at.returns c).Else-verdict-ne0) (lit≤ tt)) c.put_places.ensures

@@ -1,7 +1,6 @@
 -- The check, and two digits.
 use Prim.Native.Nat.{◌<◌}
 use lib.Dec.{lit≤}
-use borrow.Author.Rules.{rules}
 use Rattle.text.proofs.JudgedLaws.{verdict_held}
 use Rattle.combination_directive.proofs.CombinedLaws.{judgeable}
 use Rattle.letters.proofs.LeafLaws.{refused, written, as_places}

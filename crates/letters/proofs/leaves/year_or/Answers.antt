@@ -5,7 +5,6 @@ use mir.Syntax.{w64}
 use mir.ValLaws.{to_z-of_z}
 use Rattle.rules.specs.Writing.{year_text}
 use Rattle.rules.proofs.WidthLaws.{year_narrow}
-use borrow.Author.Rules.{rules}
 use Rattle.combination_directive.proofs.CombinedLaws.{judgeable}
 use Rattle.letters.proofs.LeafLaws.{refused, written}
 use Rattle.letters.proofs.leaves.year_or.Goals as goal
@@ -18,4 +17,4 @@ returns-then-verdict-ne0 c = refused _ _ _ _ c.verdict-verdict.ensures c.if-verd
 
 pub returns : goal.returns
 returns c =
-    let s = c in written _ _ _ _ c.verdict-verdict.ensures c.if-verdict-ne0.false (omega (arith, year_narrow s.args.year)) (ap year_text (to_z-of_z w64 _ s.ranges.year)) c.put_year.ensures
+    written _ _ _ _ c.verdict-verdict.ensures c.if-verdict-ne0.false (omega (arith, year_narrow c.args.year)) (ap year_text (to_z-of_z w64 _ c.ranges.year)) c.put_year.ensures

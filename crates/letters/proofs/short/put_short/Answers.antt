@@ -1,5 +1,4 @@
 -- One digit, or two.
-use borrow.Author.Rules.{rules}
 use Rattle.text.proofs.RanLaws.{said}
 use Rattle.letters.proofs.ShortLaws.{one_short, two_short}
 use Rattle.letters.proofs.short.put_short.Goals as goal
