@@ -6,7 +6,7 @@ use native.Mathlib.Omega.{arith}
 use lib.ListN.{length, take, drop, get_or, length-take, length-drop}
 use lib.Seq.{take-add, drop-drop}
 use Rattle.rules.specs.declared.Piece.{Piece}
-use Rattle.rules.specs.Format.{Item, literal, echo, directive, cut, between, read, items}
+use Rattle.rules.specs.Format.{Item, literal, echo, directive, cut, between, read}
 use Rattle.rules.specs.Stored.{Part as Stored, text, piece, join_text, parts}
 use Rattle.reading.proofs.Positions.{Part, Last, items_at}
 use Rattle.compiled.specs.declared.Next.{Next}

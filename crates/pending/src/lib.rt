@@ -11,6 +11,7 @@ use reading::{literal_end, parse_spec};
 use rules::Parsed;
 
 // Whether an echo that ends with this byte, where the bytes so far end, could still go on. The colon stands right behind the digits.
+#[tactic(auto, unfolding(rules::proofs::PendingEcho::waits))]
 fn waits(b: u8) -> bool
     ensures { result ≡ waits b }
 {

@@ -4,18 +4,22 @@ use native.Mathlib.Omega.{arith}
 use Rattle.rules.proofs.Promised.{declined}
 use Rattle.rules.proofs.StoredCompiled.{compile_too_long, compile_buffer_too_long}
 use Rattle.compiled.proofs.CompileLaws.{fault_refused, total_small, no_room, stored_there}
-use borrow.Author.Rules.{rules}
 use Rattle.compiled.proofs.compile.Goals as goal
 
 pub returns-then-format-gt-LONGEST_FORMAT : goal.returns-then-format-gt-LONGEST_FORMAT
-returns-then-format-gt-LONGEST_FORMAT c = declined _ (compile_too_long _ _ c.if-format-gt-LONGEST_FORMAT.true)
+returns-then-format-gt-LONGEST_FORMAT c =
+    let p = declined c.args.stored.now (compile_too_long _ _ c.if-format-gt-LONGEST_FORMAT.true) in
+    record { answer = p.0; stored = p.1 }
 
 pub returns-then-room-gt-LONGEST_BUFFER : goal.returns-then-room-gt-LONGEST_BUFFER
-returns-then-room-gt-LONGEST_BUFFER c = declined _ (compile_buffer_too_long _ _ c.if-format-gt-LONGEST_FORMAT.false c.if-room-gt-LONGEST_BUFFER.true)
+returns-then-room-gt-LONGEST_BUFFER c =
+    let p = declined c.args.stored.now (compile_buffer_too_long _ _ c.if-format-gt-LONGEST_FORMAT.false c.if-room-gt-LONGEST_BUFFER.true) in
+    record { answer = p.0; stored = p.1 }
 
 pub returns-then-fault-ne0 : goal.returns-then-fault-ne0
 returns-then-fault-ne0 c =
-    let read = c in fault_refused _ _ read.if-format-gt-LONGEST_FORMAT.false read.if-room-gt-LONGEST_BUFFER.false read.fault_of-fault.ensures c.if-fault-ne0.true _ _ c.refusal_of.ensures
+    let p = fault_refused _ _ c.if-format-gt-LONGEST_FORMAT.false c.if-room-gt-LONGEST_BUFFER.false c.fault_of-fault.ensures c.if-fault-ne0.true c.args.stored.now _ c.refusal_of.ensures in
+    record { answer = p.0; stored = p.1 }
 
 pub overflow_add-literals : goal.overflow_add-literals
 overflow_add-literals c = record { fits = omega (arith, total_small _ c.if-format-gt-LONGEST_FORMAT.false c.section_length-literals.ensures c.section_length-directives.ensures c.section_length-steps.ensures) }
@@ -28,13 +32,13 @@ overflow_add-literals-3 c = record { fits = omega (arith, total_small _ c.if-for
 
 pub returns-then-room-literals : goal.returns-then-room-literals
 returns-then-room-literals c =
-    let counted = c in let read = counted in
-    no_room _ _ read.if-format-gt-LONGEST_FORMAT.false read.if-room-gt-LONGEST_BUFFER.false read.fault_of-fault.ensures counted.if-fault-ne0.false
-    counted.section_length-literals.ensures counted.section_length-directives.ensures counted.section_length-steps.ensures _ c.if-room-literals.true
+    let p = no_room _ _ c.if-format-gt-LONGEST_FORMAT.false c.if-room-gt-LONGEST_BUFFER.false c.fault_of-fault.ensures c.if-fault-ne0.false
+    c.section_length-literals.ensures c.section_length-directives.ensures c.section_length-steps.ensures c.args.stored.now c.if-room-literals.true in
+    record { answer = p.0; stored = p.1 }
 
 pub returns : goal.returns
 returns c =
-    let counted = c in let read = counted in
-    stored_there _ _ read.if-format-gt-LONGEST_FORMAT.false read.if-room-gt-LONGEST_BUFFER.false read.fault_of-fault.ensures counted.if-fault-ne0.false
-    counted.section_length-literals.ensures counted.section_length-directives.ensures counted.section_length-steps.ensures refl c.if-room-literals.false
-    c.put_counted-first.ensures c.put_counted-second.ensures c.put_counted.ensures
+    let p = stored_there _ _ c.if-format-gt-LONGEST_FORMAT.false c.if-room-gt-LONGEST_BUFFER.false c.fault_of-fault.ensures c.if-fault-ne0.false
+    c.section_length-literals.ensures c.section_length-directives.ensures c.section_length-steps.ensures refl c.if-room-literals.false
+    c.put_counted-first.ensures c.put_counted-second.ensures c.put_counted.ensures in
+    record { answer = p.0; stored = p.1 }

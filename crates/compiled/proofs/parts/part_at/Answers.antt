@@ -2,7 +2,6 @@
 use mathlib.Core.Path.{sym, ◌∙◌}
 use Rattle.reading.proofs.Positions.{items_at}
 use Rattle.compiled.proofs.PartLaws.{text_next, past_none, percent_here, piece_here, no_echo, cut_none}
-use borrow.Author.Rules.{rules}
 use Rattle.compiled.proofs.parts.part_at.Goals as goal
 
 pub returns-then-i-end : goal.returns-then-i-end

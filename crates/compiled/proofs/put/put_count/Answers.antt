@@ -1,7 +1,6 @@
 -- Two bytes.
 use Rattle.text.proofs.RanLaws.{said}
 use Rattle.compiled.proofs.SectionLaws.{count_bytes}
-use borrow.Author.Rules.{rules}
 use Rattle.compiled.proofs.put.put_count.Goals as goal
 
 pub returns : goal.returns

@@ -1,6 +1,5 @@
 -- One behind the other.
 use Rattle.text.proofs.RanLaws.{◌then◌}
-use borrow.Author.Rules.{rules}
 use Rattle.compiled.proofs.put.put_counted.Goals as goal
 
 pub returns : goal.returns

@@ -1,6 +1,5 @@
 -- By the section.
 use Rattle.compiled.proofs.SectionLaws.{piece_none, piece_entries, piece_steps}
-use borrow.Author.Rules.{rules}
 use Rattle.compiled.proofs.put.put_piece.Goals as goal
 
 pub returns-in-Literals : goal.returns-in-Literals

@@ -1,11 +1,8 @@
 -- The loop keeps that the parts so far have been written; no directive has a greater index than its position.
-use Prim.Native.Nat.{◌-◌, ◌≤◌}
 use native.Mathlib.Omega.{arith}
-use lib.ListN.{length}
 use Rattle.text.proofs.RanLaws.{kept}
 use Rattle.compiled.proofs.PartLaws.{as_text, as_piece, as_end, past_none}
-use Rattle.compiled.proofs.SectionLaws.{Walked, walk_start, walk_room, walk_text, walk_piece, walk_end}
-use borrow.Author.Rules.{rules}
+use Rattle.compiled.proofs.SectionLaws.{walk_start, walk_room, walk_text, walk_piece, walk_end}
 use Rattle.compiled.proofs.put.put_section.Goals as goal
 
 pub loop-i-init : goal.loop-i-init
@@ -14,7 +11,7 @@ loop-i-init c = (omega arith, walk_start)
 pub put_text-at-requires : goal.put_text-at-requires
 put_text-at-requires c =
     let t = as_text _ _ c.part_at-next.ensures c.in-Text.is in
-    (walk_room c.loop-i.invariant.1 c.requires.0, t.onward, t.within)
+    (walk_room c.loop-i.invariant.1 c.requires.0, omega (arith, t.onward), t.within)
 
 pub loop-i-smaller-in-Text : goal.loop-i-smaller-in-Text
 loop-i-smaller-in-Text c = let t = as_text _ _ c.part_at-next.ensures c.in-Text.is in omega (arith, t.onward, t.within)

@@ -4,7 +4,6 @@ use mathlib.Core.List.{List, ◌∷◌}
 use Prim.Native.Nat.{ℕ}
 use Rattle.text.proofs.RanLaws.{said}
 use Rattle.compiled.proofs.SectionLaws.{count_bytes}
-use borrow.Author.Rules.{rules}
 use Rattle.compiled.proofs.put.put_step.Goals as goal
 
 pub returns : goal.returns

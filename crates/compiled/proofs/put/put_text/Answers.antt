@@ -1,6 +1,5 @@
 -- By the section.
 use Rattle.compiled.proofs.SectionLaws.{text_literals, text_none, text_steps}
-use borrow.Author.Rules.{rules}
 use Rattle.compiled.proofs.put.put_text.Goals as goal
 
 pub returns-in-Literals : goal.returns-in-Literals

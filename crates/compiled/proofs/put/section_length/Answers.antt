@@ -1,6 +1,5 @@
 -- A run that fits comes to its length.
 use Rattle.compiled.proofs.CompileLaws.{section_placed}
-use borrow.Author.Rules.{rules}
 use Rattle.compiled.proofs.put.section_length.Goals as goal
 
 pub returns : goal.returns
