@@ -8,8 +8,11 @@ ghost use Rattle.std.specs.Prelude.{◌≡◌};
 ghost use Rattle.rules.specs.Refusal.{numbered};
 
 pub use escape::escaped_to;
-use libc::{STDERR_FILENO, STDOUT_FILENO};
 use rules::{Answer, Refusal};
+
+pub const STDOUT_FILENO: i32 = 1;
+
+pub const STDERR_FILENO: i32 = 2;
 
 pub fn text_to(fd: i32, text: &[u8]) {
     io::write_all(fd, text);
@@ -57,6 +60,7 @@ pub fn refusal_to(fd: i32, refusal: Refusal) {
     name_to(fd, refusal);
 }
 
+#[tactic(auto, unfolding(rules::specs::Refusal::numbered))]
 pub fn answer_number(answer: Answer) -> u64
     ensures { result ≡ (numbered answer).number }
 {
@@ -66,6 +70,7 @@ pub fn answer_number(answer: Answer) -> u64
     }
 }
 
+#[tactic(auto, unfolding(rules::specs::Refusal::numbered))]
 pub fn answer_bytes(answer: Answer) -> usize
     ensures { result ≡ (numbered answer).bytes }
 {

@@ -8,11 +8,10 @@ use native.Mathlib.Omega.{arith}
 use lib.Dec.{leb}
 use lib.IntN.{ℤ, pos, negsuc, neg_ℤ, ◌-ℤ◌}
 use lib.ListN.{length, drop, get_or}
-use lib.Signed.{mag}
 use borrow.Author.Tests.{leb-true, eq-eqb, ne_eqb}
-use mir.Syntax.{w32, w64}
+use mir.Syntax.{w64}
 use mir.Val.{SFits, to_z, of_z}
-use mir.Facts.{sfits_widen, to_z-of_z}
+use mir.Facts.{to_z-of_z}
 use Rattle.stamp.specs.declared.number.Number.{Number}
 use Rattle.stamp.specs.declared.number.Number.TheVariants as number
 use Rattle.stamp.specs.declared.number.Signed.TheVariants as signed
@@ -64,11 +63,3 @@ module _ (n : ℕ) (h : n < 2 ^ 63) where
 pub minus_less : (n : ℕ) → (n ≡ 0 → ⊥) → negsuc (n - 1) ≡ neg_ℤ (pos n)
 minus_less zero h = absurd (h refl)
 minus_less (suc n) h = ap negsuc (omega arith)
-
--- a number of 32 bits, held in 64
-small_fits : (z : ℤ) → mag z ≤ 2147483647 → SFits w32 z
-small_fits (pos n) h = record { sfits = omega arith }
-small_fits (negsuc n) h = record { sfits = omega arith }
-
-pub small : (z : ℤ) → mag z ≤ 2147483647 → SFits w32 (to_z w64 (of_z w64 z))
-small z h = subst (SFits w32) (sym (to_z-of_z (sfits_widen {w = w32} {w' = w64} tt (small_fits z h)))) (small_fits z h)

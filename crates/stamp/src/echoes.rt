@@ -2,7 +2,7 @@
 ghost use Rattle.std.specs.Prelude.{◌≤◌, ◌<◌, length};
 
 use crate::item::{item_at, say_item_to};
-use libc::STDOUT_FILENO;
+use say::STDOUT_FILENO;
 
 // The lines at most; a format may have more than a thousand echoes.
 const MOST: u64 = 10;

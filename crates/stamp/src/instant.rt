@@ -1,7 +1,7 @@
 // The instant that is asked for.
 use crate::show::show;
-use libc::STDERR_FILENO;
 use rules::{Dated, Refusal};
+use say::STDERR_FILENO;
 
 // A sum beyond an i64 has such a year too.
 fn say_no_record(refusal: Refusal) {

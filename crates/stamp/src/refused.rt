@@ -3,8 +3,8 @@ ghost use Rattle.std.specs.Prelude.{◌≤◌, length};
 ghost use Rattle.stamp.specs.Items.{PlaceWithin};
 
 use crate::item::{item_at, say_item_to};
-use libc::STDERR_FILENO;
 use rules::{Answer, Record, Refusal};
+use say::STDERR_FILENO;
 
 // From where to where an item stands in the format.
 #[derive(Clone, Copy)]

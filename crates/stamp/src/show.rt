@@ -2,8 +2,8 @@
 use crate::echoes::say_echoes;
 use crate::refused::explain;
 use crate::watch::watch;
-use libc::STDERR_FILENO;
 use rules::{Answer, Record};
+use say::STDERR_FILENO;
 
 // The bytes that the format needs, for any record.
 fn say_size(format: &[u8]) {

@@ -2,8 +2,8 @@
 ghost use Rattle.std.specs.Prelude.{◌≤◌, ◌<◌};
 
 use crate::refused::explain_cut;
-use libc::STDOUT_FILENO;
 use rules::Answer;
+use say::STDOUT_FILENO;
 
 // Byte `i` of a section whose entries have `size` bytes each. Two blanks stand before the first entry, and before each entry of more than a byte.
 fn say_byte(byte: u8, i: usize, size: usize)

@@ -1,8 +1,8 @@
 // A format in runs, as a bus would bring it: what the buffer holds after each.
 ghost use Rattle.std.specs.Prelude.{◌≤◌, ◌<◌};
 
-use libc::STDOUT_FILENO;
 use rules::{Progress, Record, Runs};
+use say::STDOUT_FILENO;
 
 // The bytes of a text that are shown, at most: its last ones.
 const MOST: usize = 160;

@@ -6,7 +6,7 @@ mod ground;
 mod replay;
 mod report;
 
-use libc::STDIN_FILENO;
+const STDIN_FILENO: i32 = 0;
 
 // The list is to be shorter than what holds it, so that its end was read.
 fn replay_input(list: &mut [u8]) {
