@@ -9,48 +9,56 @@ ghost use Rattle.rules.specs.declared.Combination.TheVariants.{CombinationDateTi
 use rules::Record;
 
 // What the check of a directive comes to: 0, or the refusal's number.
+#[tactic(auto, unfolding(rules::specs::Writing::verdict))]
 pub fn verdict(ok: bool) -> usize
     ensures { result ≡ verdict ok }
 {
     if ok { 0 } else { 1 }
 }
 
+#[tactic(auto, unfolding(rules::specs::Record::ok_field))]
 pub fn month(record: Record) -> bool
     ensures { (zone : List ℕ) → result ≡ ok_field month «record» zone }
 {
     1 <= record.month && record.month <= 12
 }
 
+#[tactic(auto, unfolding(rules::specs::Record::ok_field))]
 pub fn day(record: Record) -> bool
     ensures { (zone : List ℕ) → result ≡ ok_field day «record» zone }
 {
     1 <= record.day && record.day <= 31
 }
 
+#[tactic(auto, unfolding(rules::specs::Record::ok_field))]
 pub fn hour(record: Record) -> bool
     ensures { (zone : List ℕ) → result ≡ ok_field hour «record» zone }
 {
     record.hour <= 23
 }
 
+#[tactic(auto, unfolding(rules::specs::Record::ok_field))]
 pub fn minute(record: Record) -> bool
     ensures { (zone : List ℕ) → result ≡ ok_field minute «record» zone }
 {
     record.minute <= 59
 }
 
+#[tactic(auto, unfolding(rules::specs::Record::ok_field))]
 pub fn second(record: Record) -> bool
     ensures { (zone : List ℕ) → result ≡ ok_field second «record» zone }
 {
     record.second <= 60
 }
 
+#[tactic(auto, unfolding(rules::specs::Record::ok_field))]
 pub fn nanoseconds(record: Record) -> bool
     ensures { (zone : List ℕ) → result ≡ ok_field nanoseconds «record» zone }
 {
     record.nanoseconds <= 999_999_999
 }
 
+#[tactic(auto, unfolding(rules::specs::Record::ok_field))]
 pub fn day_of_week(record: Record) -> bool
     ensures { (zone : List ℕ) → result ≡ ok_field weekday «record» zone }
 {
@@ -64,6 +72,7 @@ fn last_day_of(year: i32) -> u16
 }
 
 // The original takes day 366 in any year.
+#[tactic(auto, using(rules::proofs::YearLaws::days_from), unfolding(rules::specs::Record::ok_field))]
 pub fn day_of_year(record: Record) -> bool
     ensures { (zone : List ℕ) → result ≡ ok_field day_of_year «record» zone }
 {
@@ -91,24 +100,28 @@ pub fn time_zone(zone: &[u8]) -> bool
     true
 }
 
+#[tactic(auto, unfolding(rules::specs::Record::all_ok))]
 pub fn date(record: Record) -> bool
     ensures { (zone : List ℕ) → result ≡ all_ok (month ∷ day ∷ []) «record» zone }
 {
     month(record) && day(record)
 }
 
+#[tactic(auto, unfolding(rules::specs::Record::all_ok))]
 pub fn clock(record: Record) -> bool
     ensures { (zone : List ℕ) → result ≡ all_ok (hour ∷ minute ∷ second ∷ []) «record» zone }
 {
     hour(record) && minute(record) && second(record)
 }
 
+#[tactic(auto, unfolding(rules::specs::Record::all_ok))]
 pub fn week(record: Record) -> bool
     ensures { (zone : List ℕ) → result ≡ all_ok (weekday ∷ day_of_year ∷ []) «record» zone }
 {
     day_of_week(record) && day_of_year(record)
 }
 
+#[tactic(auto, unfolding(rules::specs::Record::all_ok, rules::specs::Writing::combination_fields))]
 pub fn date_time(record: Record) -> bool
     ensures { (zone : List ℕ) → result ≡ all_ok (combination_fields CombinationDateTime) «record» zone }
 {

@@ -27,6 +27,8 @@ hour_value s n h = round_whole binary64 s n (exact n h)
 
 sign_of : (x : Float) (s : Bool) (n : ℕ) → HasValue x s n 1 → is_sign_negative x ≡ s
 unfolding is_sign_negative
+sign_of nan s n v = elim v [ ]
+sign_of (inf _) s n v = elim v [ ]
 sign_of (fin t m e) s n v = v.0
 
 pub hour_sign : (s : Bool) (n : ℕ) → n < 2 ^ 32 → is_sign_negative (hour_of s n) ≡ s
@@ -34,6 +36,8 @@ hour_sign s n h = sign_of (hour_of s n) s n (hour_value s n h)
 
 not_nan : (x : Float) (s : Bool) (n : ℕ) → HasValue x s n 1 → T (not (is_nan x))
 unfolding is_nan
+not_nan nan s n v = elim v [ ]
+not_nan (inf _) s n v = elim v [ ]
 not_nan (fin t m e) s n v = tt
 
 pub hour_number : (s : Bool) (n : ℕ) → n < 2 ^ 32 → T (not (is_nan (hour_of s n)))
@@ -79,6 +83,8 @@ scaled n d a p e = go (ltb n 10) refl
 
 below_ten_lem : (x : Float) (s : Bool) (n : ℕ) → HasValue x s n 1 → below_ten x ≡ (s || ltb n 10)
 unfolding below_ten ten lt of_bits
+below_ten_lem nan s n v = elim v [ ]
+below_ten_lem (inf _) s n v = elim v [ ]
 below_ten_lem (fin true m e) s n v = lt-ltb 0 (m * up e * 1 + 10 * down e) (omega (arith, down_pos e)) ∙ ap (λ (t : Bool). t || ltb n 10) v.0
 below_ten_lem (fin false m e) s n v = scaled n (down e) (m * up e * 1) (down_pos e) v.1 ∙ ap (λ (t : Bool). t || ltb n 10) v.0
 
@@ -90,6 +96,8 @@ hour_below s n h = below_ten_lem (hour_of s n) s n (hour_value s n h)
 
 absolute_value : (x : Float) (s : Bool) (n : ℕ) → HasValue x s n 1 → HasValue (absolute x) false n 1
 unfolding absolute is_sign_negative neg
+absolute_value nan s n v = elim v [ ]
+absolute_value (inf _) s n v = elim v [ ]
 absolute_value (fin true m e) s n v = (refl, v.1)
 absolute_value (fin false m e) s n v = (refl, v.1)
 
@@ -130,6 +138,8 @@ plain false = refl
 
 times : (s : Bool) (n : ℕ) (x : Float) → HasValue x false n 1 → mul binary64 (fin s 1 (pos 0)) x ≡ round binary64 s n 1
 unfolding mul
+times s n nan v = elim v [ ]
+times s n (inf _) v = elim v [ ]
 times s n (fin t m e) v =
     ap (λ (b : Bool). round binary64 (unlike s b) (1 * (m * up e)) (1 * down e)) v.0
     ∙ ap (λ (b : Bool). round binary64 b (1 * (m * up e)) (1 * down e)) (plain s)

@@ -62,6 +62,7 @@ fn is_sign_negative(hour: f64) -> bool
     f64::to_bits(hour) >= 0x8000_0000_0000_0000
 }
 
+#[tactic(auto, unfolding(crate::specs::Hour::below_ten, crate::specs::Hour::ten))]
 fn extra_place(hour: f64) -> usize
     ensures { result ≡ cond (below_ten hour) 1 0 }
 {

@@ -5,7 +5,6 @@ use mir.Syntax.{w64}
 use mir.ValLaws.{to_z-of_z}
 use Rattle.rules.proofs.Shift.{Is}
 use Rattle.calendar.proofs.DateLaws.{YearIs, year_is, inside, few_years, small, date_for}
-use borrow.Author.Rules.{rules}
 use Rattle.calendar.proofs.date_at.Goals as goal
 use Rattle.calendar.proofs.date_at.Goals.{After-days_of, After-month_start, After-raised-n, After-year_at-z}
 
@@ -20,7 +19,7 @@ year c = year_is _ _ _ c.days_of-start.ensures c.days_of.ensures
 
 day_small : (c : After-month_start) → let x = c.raised-n.result - c.days_of-start.result in
     (c.month_start.result ≤ x) × (x - c.month_start.result + 1 ≤ 31)
-day_small c = small (year c).0.few c.month_at_lem.ensures c.month_start.ensures.0
+day_small c = small (year_is _ _ _ c.days_of-start.ensures c.days_of.ensures).0.few c.month_at-m.ensures c.month_start.ensures.0
 
 pub days_of-start-requires : goal.days_of-start-requires
 days_of-start-requires c = omega (arith, few (goal.at.days_of-start-requires c).After-year_at-z)
@@ -38,7 +37,7 @@ pub month_at-m-requires : goal.month_at-m-requires
 month_at-m-requires c = ((inside (year (goal.at.month_at-m-requires c).After-days_of).0 c.year_at-z.ensures).1, (year (goal.at.month_at-m-requires c).After-days_of).0.few)
 
 pub month_start-requires : goal.month_start-requires
-month_start-requires c = let m = c.month_at_lem.ensures in (m.from, omega (arith, m.to), (year (goal.at.month_start-requires c).After-days_of).0.few)
+month_start-requires c = let m = c.month_at-m.ensures in (m.from, omega (arith, m.to), (year (goal.at.month_start-requires c).After-days_of).0.few)
 
 pub overflow_cast-d : goal.overflow_cast-d
 overflow_cast-d c = omega (arith, (day_small (goal.at.overflow_cast-d c).After-month_start).1)
@@ -53,5 +52,5 @@ lowered-requires c = (omega (arith, few (goal.at.lowered-requires c).After-year_
 
 pub returns : goal.returns
 returns c =
-    let d = c in rw (to_z-of_z w64 _ (record { sfits = c.lowered.type-inv }))
-    (date_for (n_is (goal.at.returns d).After-raised-n) c.lowered.ensures d.year_at-z.ensures (year (goal.at.returns d).After-days_of).0 c.month_at_lem.ensures c.month_start.ensures.0)
+    let d = c in rw (to_z-of_z w64 _ (record { sfits = c.lowered.type_inv }))
+    (date_for (n_is (goal.at.returns d).After-raised-n) c.lowered.ensures d.year_at-z.ensures (year (goal.at.returns d).After-days_of).0 c.month_at-m.ensures c.month_start.ensures.0)

@@ -1,22 +1,17 @@
 -- The year's first day, the days before the month, and the day.
-use mathlib.Core.Logic.{⊎_elim}
 use Prim.Native.Nat.{◌+◌, ◌-◌, ◌<◌, ◌≤◌}
 use native.Mathlib.Omega.{arith}
-use borrow.Author.Tests.{ltb-true, ltb-false}
 use mir.Syntax.{w64}
 use mir.ValLaws.{to_z-of_z}
 use Rattle.rules.proofs.Shift.{Is}
 use Rattle.calendar.specs.Inner.{found, missing}
-use Rattle.numbers.proofs.Signed.{widens, widened}
+use Rattle.numbers.proofs.Signed.{widened}
 use Rattle.calendar.proofs.DateLaws.{YearIs, year_is, starts_to, not_there, the_day}
-use borrow.Author.Rules.{rules}
 use Rattle.calendar.proofs.day_at.Goals as goal
 use Rattle.calendar.proofs.day_at.Goals.{After-days_of, After-days_of-start, After-raised-z, Else-day-lt1}
 
--- LOOK field if1: ['if-month-lt1', 'then-month-lt1']
--- LOOK field if1: ['if-month-lt1', 'then-month-lt1']
 within : (c : Else-day-lt1) → let a = c.args in (1 ≤ a.month) × (a.month ≤ 12) × (1 ≤ a.day)
-within c = (c.if-month-lt1.false, ltb-false _ _ c.if-month-gt12.false, ltb-false _ _ c.if-day-lt1.false)
+within c = (omega arith, omega arith, omega arith)
 
 z_is : (c : After-raised-z) → Is c.args.year 292279999999 c.raised-z.result
 z_is c = rw (widened _ c.ranges.year) at c.raised-z.ensures.0
@@ -28,19 +23,7 @@ start_small : (c : After-days_of-start) → c.days_of-start.result < 21400000000
 start_small c = omega (arith, c.days_of-start.ensures, starts_to c.raised-z.result, c.raised-z.ensures.1)
 
 pub returns-then-month-lt1 : goal.returns-then-month-lt1
-returns-then-month-lt1 c =
-    let a = c.args in
-    missing (λ x.
-    ⊎_elim
-    (λ w. omega (arith, x.month_from))
-    (⊎_elim (λ w. omega (arith, x.month_to, ltb-true 12 a.month w.1.taken)) (λ w. omega (arith, x.day_from, ltb-true a.day 1 w.2.taken)))
-    c.if-month-lt1.branch)
-
-pub overflow_cast-year : goal.overflow_cast-year
-overflow_cast-year c = widens _ c.ranges.year
-
-pub raised-z-requires : goal.raised-z-requires
-raised-z-requires c = rw (widened _ c.ranges.year) (omega (arith, c.ranges.year.sfits), omega arith)
+returns-then-month-lt1 c = missing (λ x. omega arith)
 
 pub overflow_sub-leap : goal.overflow_sub-leap
 overflow_sub-leap c = omega (arith, (year (goal.at.overflow_sub-leap c).After-days_of).1)
@@ -56,9 +39,9 @@ month_start-requires c = let w = within (goal.at.month_start-requires c).Else-da
 
 pub returns-then-before-d : goal.returns-then-before-d
 returns-then-before-d c =
-    let m = c in let y = m in
-    let w = within y in
-    missing (not_there (z_is y) (year y).0 w.0 w.1 m.month_start-before.ensures.0 m.month_start.ensures.0 c.if-before-d.true)
+    let w = within (goal.at.returns-then-before-d c).Else-day-lt1 in
+    let y = year (goal.at.returns-then-before-d c).After-days_of in
+    missing (not_there (z_is (goal.at.returns-then-before-d c).After-raised-z) y.0 w.0 w.1 c.month_start-before.ensures.0 c.month_start.ensures.0 c.if-before-d.true)
 
 pub overflow_add-start : goal.overflow_add-start
 overflow_add-start c = omega (arith, start_small (goal.at.overflow_add-start c).After-days_of-start)
@@ -74,7 +57,7 @@ lowered-requires c = (omega (arith, start_small (goal.at.lowered-requires c).Aft
 
 pub returns : goal.returns
 returns c =
-    let m = c in let y = m in
-    let w = within y in
-    rw (to_z-of_z w64 _ (record { sfits = c.lowered.type-inv }))
-    (found (the_day (z_is y) (year y).0 w.0 w.1 m.month_start-before.ensures.0 m.month_start.ensures.0 w.2 c.if-before-d.false c.lowered.ensures))
+    let w = within (goal.at.returns c).Else-day-lt1 in
+    let y = year (goal.at.returns c).After-days_of in
+    rw (to_z-of_z w64 _ (record { sfits = c.lowered.type_inv }))
+    (found (the_day (z_is (goal.at.returns c).After-raised-z) y.0 w.0 w.1 c.month_start-before.ensures.0 c.month_start.ensures.0 w.2 c.if-before-d.false c.lowered.ensures))

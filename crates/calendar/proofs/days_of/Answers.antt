@@ -1,7 +1,6 @@
 -- The formula, as it stands.
 use mathlib.Core.Path.{refl}
 use Rattle.rules.proofs.CalendarLaws.{starts}
-use borrow.Author.Rules.{rules}
 use Rattle.calendar.proofs.days_of.Goals as goal
 
 pub returns : goal.returns

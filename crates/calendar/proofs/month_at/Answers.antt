@@ -1,7 +1,6 @@
 -- The formula on each side of March 1.
 use borrow.Author.Tests.{lt-ltb, le-ltb}
 use Rattle.rules.proofs.Dates.{month_at, month_at_lem}
-use borrow.Author.Rules.{rules}
 use Rattle.calendar.proofs.month_at.Goals as goal
 
 pub returns-then-x-march : goal.returns-then-x-march

@@ -1,7 +1,6 @@
 -- The formula on each side of March.
 use native.Mathlib.Omega.{arith}
 use Rattle.calendar.proofs.MonthLaws.{before_march, from_march}
-use borrow.Author.Rules.{rules}
 use Rattle.calendar.proofs.month_start.Goals as goal
 
 pub returns-then-m-lt3 : goal.returns-then-m-lt3

@@ -1,7 +1,6 @@
 -- The guess, or one more.
 use native.Mathlib.Omega.{arith}
 use Rattle.rules.proofs.Dates.{year_guessed, year_short}
-use borrow.Author.Rules.{rules}
 use Rattle.calendar.proofs.year_at.Goals as goal
 
 pub returns-then-n-days_of : goal.returns-then-n-days_of

@@ -1,12 +1,8 @@
 -- The invariant: the name is all right if what is left of it is.
-use mathlib.Core.Path.{◌≡◌, refl, sym, ◌∙◌}
+use mathlib.Core.Path.{◌≡◌}
 use Prim.Native.Nat.{◌≤◌, ◌-◌}
-use native.Mathlib.Omega.{arith}
 use lib.ListN.{length, drop}
-use borrow.Author.Rules.{rules}
-use borrow.Author.Tests.{not-true, not-false}
 use Rattle.rules.specs.Record.{zone_ok}
-use Rattle.fields.proofs.Laws.{zone_more, zone_failed, zone_done}
 use Rattle.fields.proofs.time_zone.Given as goal
 
 abbrev pub invariant-loop-i : goal.invariant-loop-i

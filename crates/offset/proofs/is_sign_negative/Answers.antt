@@ -1,9 +1,7 @@
 -- `is_sign_negative`: the sign is the highest bit.
 use borrow.Author.Rules.{rules}
-use denote.Floats.{passes}
-use lib.Ieee.{fits, binary64}
 use Rattle.offset.proofs.HourLaws.{sign_bit}
 use Rattle.offset.proofs.is_sign_negative.Goals as goal
 
 pub returns : goal.returns
-returns c = sign_bit c.args.hour (passes (fits binary64 c.args.hour) c.well-formed.0.1) c.requires
+returns c = sign_bit c.args.hour (search rules) c.requires

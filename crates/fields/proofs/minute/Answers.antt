@@ -1,8 +1,0 @@
--- `minute` tests what the rule says.
-use mathlib.Core.Path.{refl}
-use Rattle.rules.specs.Record.{ok_field}
-use Rattle.fields.proofs.minute.Goals as goal
-
-pub returns : goal.returns
-unfolding ok_field
-returns c = refl
