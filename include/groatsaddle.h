@@ -1,9 +1,9 @@
 /* Groatsaddle: format bytes and a flat time record go in, text comes out in a buffer that the caller lends. The record
    can be had from a count of seconds, and the format can come in runs, or be read once and stored.
 
-   Link libgroatsaddle.a (-lgroatsaddle), which `rt staticlib groatsaddle` writes to target/staticlib, for x86-64. It
-   calls memcpy and memset, which a C compiler's programs have, and nothing else. gs_format takes some 24 KB of code and
-   1.3 KB of constants.
+   Link libgroatsaddle.a (-lgroatsaddle), which `rt lib --cpu x86-64` in crates/groatsaddle writes to its out/, for
+   x86-64. It calls memcpy and memset, which a C compiler's programs have, and nothing else. gs_format takes some 24 KB
+   of code and 1.3 KB of constants (the figures on this page are of an older compiler, rattle-kit-5b).
 
    A first use:
 
