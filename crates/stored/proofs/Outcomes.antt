@@ -1,9 +1,9 @@
 -- What the entry answers, and the buffer afterwards, where `strftime`'s laws don't say it: 11, and a stored form that is run.
 use mathlib.Core.Path.{◌≡◌, refl, sym, ap, subst, ◌∙◌}
-use mathlib.Core.Bool.{Bool, true, false, not, ◌&&◌}
+use mathlib.Core.Bool.{Bool, true, false, ◌&&◌}
 use mathlib.Core.List.{List}
 use Prim.Native.Nat.{ℕ, ◌+◌, ◌/◌, ◌≤◌, ◌<◌}
-use borrow.Author.Tests.{le-leb, not-true, not-false}
+use borrow.Author.Tests.{le-leb}
 use lib.ListN.{length, drop}
 use Rattle.rules.specs.declared.Record.{Record}
 use Rattle.rules.specs.declared.Refusal.{Refusal}
@@ -32,12 +32,12 @@ module _ {s : List ℕ} {l d : ℕ} (w : Agreed s l d) {k : Bool} (e : k ≡ ent
   entries_are : k ≡ entries_taken (sections s).directives (sections s).from_directives
   entries_are = e ∙ ap (λ (n : ℕ). entries_taken n (drop (4 + l) s)) w.directives ∙ ap (entries_taken (sections s).directives) (sym (directives_here w))
 
-  pub sound : not k ≡ false → Sound s l d
-  sound t = record { counts = w; entries = sym entries_are ∙ not-false k t }
+  pub sound : k ≡ true → Sound s l d
+  sound t = record { counts = w; entries = sym entries_are ∙ t }
 
-  pub unsound : not k ≡ true → well_stored s ≡ false
+  pub unsound : k ≡ false → well_stored s ≡ false
   unsound t =
-      then_well w ∙ ap (λ (b : Bool). b && steps_taken (sections s).steps (sections s).from_steps (sections s).directives (sections s).literals) (sym entries_are ∙ not-true k t)
+      then_well w ∙ ap (λ (b : Bool). b && steps_taken (sections s).steps (sections s).from_steps (sections s).directives (sections s).literals) (sym entries_are ∙ t)
 
 -- ## The outcome
 

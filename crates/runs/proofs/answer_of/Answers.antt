@@ -1,5 +1,4 @@
 -- By the three cases.
-use borrow.Author.Rules.{rules}
 use Rattle.rules.proofs.HeldWays.{answer_refused, answer_done, answer_more}
 use Rattle.runs.proofs.answer_of.Goals as goal
 

@@ -1,10 +1,9 @@
 -- What is kept is the smaller, and the number is known.
 use mathlib.Core.Path.{sym, ap, ◌∙◌}
 use Prim.Native.Nat.{ℕ, min}
-use borrow.Author.Rules.{rules}
 use Rattle.rules.proofs.HeldWays.{numbers_read}
 use Rattle.runs.proofs.as_read.Goals as goal
 
 pub returns : goal.returns
-returns c =
+returns c l e =
     numbers_read c.args.s l _ _ (c.smaller_of.ensures ∙ ap (λ (n : ℕ). min c.args.s.kept n) (sym e)) c.known.ensures

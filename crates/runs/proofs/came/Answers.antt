@@ -1,5 +1,4 @@
 -- The place's two numbers.
-use borrow.Author.Rules.{rules}
 use Rattle.runs.proofs.came.Goals as goal
 
 pub returns : goal.returns

@@ -4,7 +4,6 @@ use native.Mathlib.Omega.{arith}
 use lib.ListN.{length}
 use lib.Seq.{length-take-le}
 use Rattle.rules.specs.Runs.{close}
-use borrow.Author.Rules.{rules}
 use Rattle.runs.proofs.NumberLaws.{end_good}
 use Rattle.runs.proofs.ReadLaws.{end_read}
 use Rattle.runs.proofs.EntryLaws.{kept_fits, after_end, after_refusal, end_own_lem, end_through}
@@ -13,38 +12,38 @@ use Rattle.runs.proofs.end.Goals as goal
 pub returns-then-was : goal.returns-then-was
 returns-then-was c =
     let a = c.args in
-    after_end a.zone.now a.«record» a.s a.store.now a.buffer-1.now _ (c.as_read-was.ensures _ refl) close c.if-was.true
+    after_end a.zone.now a.«record» a.s a.store.now a.buffer.now _ (c.as_read-was.ensures _ refl) close c.if-was.true
 
 pub returns-then-was-ne0 : goal.returns-then-was-ne0
 returns-then-was-ne0 c =
     let a = c.args in
-    after_refusal a.zone.now a.«record» a.s a.store.now a.buffer-1.now _ (c.as_read-was.ensures _ refl) close c.if-was-ne0.true
+    after_refusal a.zone.now a.«record» a.s a.store.now a.buffer.now _ (c.as_read-was.ensures _ refl) close c.if-was-ne0.true
 
 pub returns-then-number-ne0 : goal.returns-then-number-ne0
 returns-then-number-ne0 c =
     let a = c.args in
-    end_own_lem a.zone.now a.«record» a.s a.store.now a.buffer-1.now _ (c.as_read-was.ensures _ refl) c.if-was.false c.if-was-ne0.false _ c.end_number-number.ensures _ c.if-number-ne0.true c.refused.ensures
+    end_own_lem a.zone.now a.«record» a.s a.store.now a.buffer.now _ (c.as_read-was.ensures _ refl) c.if-was.false c.if-was-ne0.false _ c.end_number-number.ensures _ c.if-number-ne0.true c.refused.ensures
 
 pub slice_bounds-run_from-end : goal.slice_bounds-run_from-end
 slice_bounds-run_from-end c =
     let a = c.args in
-    sym (length-take-le _ _ (kept_fits a.zone.now a.«record» a.s a.store.now a.buffer-1.now _ (c.as_read-was.ensures _ refl)))
+    sym (length-take-le _ _ (kept_fits a.zone.now a.«record» a.s a.store.now a.buffer.now _ (c.as_read-was.ensures _ refl)))
 
 pub overflow_mul-was : goal.overflow_mul-was
 overflow_mul-was c =
     let a = c.args in
-    let g = end_good c.as_read-was.result (length a.zone.now) (length a.buffer-1.now) (sym c.end_number-number.ensures ∙ c.if-number-ne0.false) in
+    let g = end_good c.as_read-was.result (length a.zone.now) (length a.buffer.now) (sym c.end_number-number.ensures ∙ c.if-number-ne0.false) in
     omega (arith, g.sum)
 
 pub run_from-place-requires : goal.run_from-place-requires
 run_from-place-requires c =
     let a = c.args in
-    let g = end_good c.as_read-was.result (length a.zone.now) (length a.buffer-1.now) (sym c.end_number-number.ensures ∙ c.if-number-ne0.false) in
+    let g = end_good c.as_read-was.result (length a.zone.now) (length a.buffer.now) (sym c.end_number-number.ensures ∙ c.if-number-ne0.false) in
     (record { within = omega arith; small = g.small }, omega arith)
 
 pub returns : goal.returns
 returns c =
     let a = c.args in
-    let g = end_good c.as_read-was.result (length a.zone.now) (length a.buffer-1.now) (sym c.end_number-number.ensures ∙ c.if-number-ne0.false) in
-    end_through a.zone.now a.«record» a.s a.store.now a.buffer-1.now _ (c.as_read-was.ensures _ refl) c.if-was.false c.if-was-ne0.false _ c.end_number-number.ensures c.if-number-ne0.false _
-    (end_read c.as_read-was.result a.zone.now a.«record» a.store.now a.buffer-1.now (kept_fits a.zone.now a.«record» a.s a.store.now a.buffer-1.now _ (c.as_read-was.ensures _ refl)) g _ _ _ c.run_from-place.ensures c.came.ensures)
+    let g = end_good c.as_read-was.result (length a.zone.now) (length a.buffer.now) (sym c.end_number-number.ensures ∙ c.if-number-ne0.false) in
+    end_through a.zone.now a.«record» a.s a.store.now a.buffer.now _ (c.as_read-was.ensures _ refl) c.if-was.false c.if-was-ne0.false _ c.end_number-number.ensures c.if-number-ne0.false _
+    (end_read c.as_read-was.result a.zone.now a.«record» a.store.now a.buffer.now (kept_fits a.zone.now a.«record» a.s a.store.now a.buffer.now _ (c.as_read-was.ensures _ refl)) g _ _ _ c.run_from-place.ensures c.came.ensures)

@@ -2,7 +2,6 @@
 use mathlib.Core.Path.{refl, sym, ◌∙◌}
 use lib.ListN.{length}
 use Rattle.rules.specs.Runs.{bring}
-use borrow.Author.Rules.{rules}
 use Rattle.runs.proofs.NumberLaws.{run_good}
 use Rattle.runs.proofs.EntryLaws.{after_end, after_refusal, run_own_lem, run_through}
 use Rattle.runs.proofs.run.Goals as goal
@@ -10,24 +9,24 @@ use Rattle.runs.proofs.run.Goals as goal
 pub returns-then-was : goal.returns-then-was
 returns-then-was c =
     let a = c.args in
-    after_end a.zone.now a.«record» a.s a.store-1.now a.buffer-1.now _ (c.as_read-was.ensures _ refl) (bring a.bytes.now) c.if-was.true
+    after_end a.zone.now a.«record» a.s a.store.now a.buffer.now _ (c.as_read-was.ensures _ refl) (bring a.bytes.now) c.if-was.true
 
 pub returns-then-was-ne0 : goal.returns-then-was-ne0
 returns-then-was-ne0 c =
     let a = c.args in
-    after_refusal a.zone.now a.«record» a.s a.store-1.now a.buffer-1.now _ (c.as_read-was.ensures _ refl) (bring a.bytes.now) c.if-was-ne0.true
+    after_refusal a.zone.now a.«record» a.s a.store.now a.buffer.now _ (c.as_read-was.ensures _ refl) (bring a.bytes.now) c.if-was-ne0.true
 
 pub returns-then-number-ne0 : goal.returns-then-number-ne0
 returns-then-number-ne0 c =
     let a = c.args in
-    run_own_lem a.zone.now a.«record» a.s a.store-1.now a.buffer-1.now _ (c.as_read-was.ensures _ refl) a.bytes.now c.if-was.false c.if-was-ne0.false _ c.run_number-number.ensures _ c.if-number-ne0.true c.refused.ensures
+    run_own_lem a.zone.now a.«record» a.s a.store.now a.buffer.now _ (c.as_read-was.ensures _ refl) a.bytes.now c.if-was.false c.if-was-ne0.false _ c.run_number-number.ensures _ c.if-number-ne0.true c.refused.ensures
 
 pub read_run-requires : goal.read_run-requires
 read_run-requires c =
     let a = c.args in
-    run_good _ (length a.bytes.now) (length a.zone.now) (length a.buffer-1.now) (length a.store-1.now) (sym c.run_number-number.ensures ∙ c.if-number-ne0.false)
+    run_good _ (length a.bytes.now) (length a.zone.now) (length a.buffer.now) (length a.store.now) (sym c.run_number-number.ensures ∙ c.if-number-ne0.false)
 
 pub returns : goal.returns
 returns c =
     let a = c.args in
-    run_through a.zone.now a.«record» a.s a.store-1.now a.buffer-1.now _ (c.as_read-was.ensures _ refl) a.bytes.now c.if-was.false c.if-was-ne0.false _ c.run_number-number.ensures c.if-number-ne0.false _ c.read_run.ensures
+    run_through a.zone.now a.«record» a.s a.store.now a.buffer.now _ (c.as_read-was.ensures _ refl) a.bytes.now c.if-was.false c.if-was-ne0.false _ c.run_number-number.ensures c.if-number-ne0.false _ c.read_run.ensures

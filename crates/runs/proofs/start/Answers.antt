@@ -1,6 +1,5 @@
 -- The first check that fails.
 use lib.ListN.{length}
-use borrow.Author.Rules.{rules}
 use Rattle.rules.proofs.HeldWays.{numbers_started}
 use Rattle.runs.proofs.start.Goals as goal
 

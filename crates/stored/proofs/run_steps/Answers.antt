@@ -1,9 +1,7 @@
 -- The loop keeps `Walked`; each turn is one of its steps.
-use Prim.Native.Nat.{◌-◌}
 use native.Mathlib.Omega.{arith}
-use lib.ListN.{length}
-use Rattle.text.proofs.RanLaws.{kept, room_kept}
-use Rattle.stored.proofs.StepLaws.{three_there, Walked, walk_start, walk_on, walk_end}
+use Rattle.text.proofs.RanLaws.{room_kept}
+use Rattle.stored.proofs.StepLaws.{three_there, walk_start, walk_on, walk_end}
 use Rattle.stored.proofs.run_steps.Goals as goal
 
 pub loop-i-init : goal.loop-i-init
@@ -23,9 +21,6 @@ overflow_add-i c = omega (arith, three_there c.loop-i.invariant.standing c.loop-
 
 pub loop-i-preserved : goal.loop-i-preserved
 loop-i-preserved c = walk_on c.loop-i.invariant c.run_part-at.ensures c.used_at-from.ensures
-
-pub shape_of-out : goal.shape_of-out
-shape_of-out c = kept c.loop-i.invariant.ran
 
 pub returns : goal.returns
 returns c = walk_end c.loop-i.invariant c.loop-i-test.false

@@ -1,9 +1,7 @@
 -- The loop keeps `Walked`; each turn is one of its steps.
 use Prim.Native.Nat.{◌-◌}
-use native.Mathlib.Omega.{arith}
 use lib.ListN.{length}
-use Rattle.text.proofs.RanLaws.{kept, room_kept}
-use Rattle.stored.proofs.StepLaws.{three_there, Walked, walk_start, walk_on, walk_end}
+use Rattle.stored.proofs.StepLaws.{Walked}
 use Rattle.stored.proofs.run_steps.Given as goal
 
 abbrev pub invariant-loop-i : goal.invariant-loop-i

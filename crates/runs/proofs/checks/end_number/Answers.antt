@@ -1,8 +1,6 @@
 -- The first test that fails.
 use Prim.Native.Nat.{◌+◌}
 use native.Mathlib.Omega.{arith}
-use borrow.Author.Rules.{rules}
-use borrow.Author.Tests.{not-true, not-false}
 use Rattle.text.proofs.PlaceLaws.{fits_yes, fits_no}
 use Rattle.runs.proofs.NumberLaws.{end_inputs, end_other_total, end_past_room, end_passes}
 use Rattle.runs.proofs.checks.end_number.Goals as goal
@@ -15,13 +13,13 @@ returns-then-long-ne0 c =
 pub returns-then-not-fits : goal.returns-then-not-fits
 returns-then-not-fits c =
     let a = c.args in
-    let past = fits_no (a.s.passed + a.s.kept) a.s.total c.fits2.ensures (not-true c.fits2.result c.if-not-fits.true) in
+    let past = fits_no (a.s.passed + a.s.kept) a.s.total c.fits.ensures c.if-not-fits.true in
     end_other_total a.s a.zone a.room _ c.inputs_number-long.ensures c.if-long-ne0.false (λ e. omega (arith, past, e))
 
 pub overflow_add-s : goal.overflow_add-s
 overflow_add-s c =
     let a = c.args in
-    omega (arith, fits_yes (a.s.passed + a.s.kept) a.s.total c.fits2.ensures (not-false c.fits2.result c.if-not-fits.false))
+    omega (arith, fits_yes (a.s.passed + a.s.kept) a.s.total c.fits.ensures c.if-not-fits.false)
 
 pub returns-then-s : goal.returns-then-s
 returns-then-s c =

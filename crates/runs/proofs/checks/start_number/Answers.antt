@@ -1,5 +1,4 @@
 -- The inputs' number, or by the store.
-use borrow.Author.Rules.{rules}
 use Rattle.runs.proofs.NumberLaws.{start_inputs, past_store, start_passes}
 use Rattle.runs.proofs.checks.start_number.Goals as goal
 

@@ -1,7 +1,6 @@
 -- After j turns the first j bytes of the part stand in front.
 use Prim.Native.Nat.{◌-◌, ◌≤◌}
-use native.Mathlib.Omega.{arith}
-use Rattle.runs.proofs.MoveLaws.{Moved, moved_none, moved_more, moved_all}
+use Rattle.runs.proofs.MoveLaws.{Moved}
 use Rattle.runs.proofs.store.move_front.Given as goal
 
 abbrev pub invariant-loop-j : goal.invariant-loop-j

@@ -1,6 +1,5 @@
 -- The run laid into the part of the store behind what is kept.
 use Rattle.runs.proofs.MoveLaws.{taken_in}
-use borrow.Author.Rules.{rules}
 use Rattle.runs.proofs.store.take_in.Goals as goal
 
 pub returns : goal.returns

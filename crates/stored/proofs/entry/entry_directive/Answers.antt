@@ -2,7 +2,6 @@
 use native.Mathlib.Omega.{arith}
 use Rattle.letters.proofs.LetterLaws.{was_letter, left_alone}
 use Rattle.stored.proofs.EntryLaws.{by_letter, by_other}
-use borrow.Author.Rules.{rules}
 use Rattle.stored.proofs.entry.entry_directive.Goals as goal
 
 pub returns-then-place-eq-NOT_A_LETTER : goal.returns-then-place-eq-NOT_A_LETTER

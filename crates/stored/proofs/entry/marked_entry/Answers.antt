@@ -1,7 +1,6 @@
 -- Straight off, or by its piece.
 use mathlib.Core.Path.{refl}
 use Rattle.stored.proofs.EntryLaws.{by_colon, by_short, by_piece}
-use borrow.Author.Rules.{rules}
 use Rattle.stored.proofs.entry.marked_entry.Goals as goal
 
 pub returns-then-eight-eq1 : goal.returns-then-eight-eq1

@@ -1,16 +1,13 @@
 -- 16 bytes, none, or as many as there are.
 use native.Mathlib.Omega.{arith}
-use borrow.Author.Tests.{ltb-true}
 use Rattle.stored.proofs.CopyLaws.{copied_most, copied_none}
-use borrow.Author.Rules.{rules}
 use Rattle.stored.proofs.literals.copy_text.Goals as goal
 
--- LOOK field if1: ['else-n-le16', 'if-n-le16']
 pub lay-requires : goal.lay-requires
-lay-requires c = c.requires.2 (ltb-true _ _ c.if-at-blocks.true)
+lay-requires c = c.requires.2 c.if-at-blocks.true
 
 pub returns-then-at-blocks : goal.returns-then-at-blocks
-returns-then-at-blocks c = let room = c.requires.2 (ltb-true _ _ c.if-at-blocks.true) in copied_most c.args.src.now c.args.from _ 16 c.else-n-le16.true room.0 room.1 c.lay.ensures
+returns-then-at-blocks c = let room = c.requires.2 c.if-at-blocks.true in copied_most c.args.src.now c.args.from _ 16 c.if-n-le16.true room.0 room.1 c.lay.ensures
 
 pub returns-then-out-at : goal.returns-then-out-at
 returns-then-out-at c = copied_none

@@ -1,8 +1,6 @@
 -- The bytes that are laid already.
-use Prim.Native.Nat.{◌-◌, ◌≤◌}
 use native.Mathlib.Omega.{arith}
-use lib.ListN.{take, drop}
-use Rattle.text.proofs.OverlayLaws.{Laid, laid_none, laid_all}
+use Rattle.text.proofs.OverlayLaws.{laid_none, laid_all}
 use Rattle.stored.proofs.CopyLaws.{part_length, part_more}
 use Rattle.stored.proofs.literals.lay.Goals as goal
 
@@ -14,9 +12,6 @@ bounds-out-at c = omega (arith, c.loop-k.invariant.0.kept)
 
 pub loop-k-preserved : goal.loop-k-preserved
 loop-k-preserved c = (part_more _ _ _ c.loop-k.invariant.0 c.requires.1 c.loop-k-test.true, omega arith)
-
-pub shape_of-out : goal.shape_of-out
-shape_of-out c = c.loop-k.invariant.0.kept
 
 pub returns : goal.returns
 returns c = laid_all c.loop-k.invariant.0 (omega (arith, part_length c.args.count c.args.from c.args.src.now c.requires.1))

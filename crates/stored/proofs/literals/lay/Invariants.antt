@@ -1,9 +1,7 @@
 -- The bytes that are laid already.
 use Prim.Native.Nat.{◌-◌, ◌≤◌}
-use native.Mathlib.Omega.{arith}
 use lib.ListN.{take, drop}
-use Rattle.text.proofs.OverlayLaws.{Laid, laid_none, laid_all}
-use Rattle.stored.proofs.CopyLaws.{part_length, part_more}
+use Rattle.text.proofs.OverlayLaws.{Laid}
 use Rattle.stored.proofs.literals.lay.Given as goal
 
 abbrev pub invariant-loop-k : goal.invariant-loop-k
