@@ -54,7 +54,7 @@ fn byte_at(form: &[u8], i: usize) -> usize
     0
 }
 
-fn count_at_lem(form: &[u8], at: usize) -> usize
+fn count_at(form: &[u8], at: usize) -> usize
     requires { at ≤ 65537 }
     ensures { result ≤ 65535 }
 {
@@ -62,8 +62,8 @@ fn count_at_lem(form: &[u8], at: usize) -> usize
 }
 
 fn say_form(form: &[u8], format_length: usize) {
-    let directives = 2 + count_at_lem(form, 0);
-    let steps = directives + 2 + count_at_lem(form, directives) * 8;
+    let directives = 2 + count_at(form, 0);
+    let steps = directives + 2 + count_at(form, directives) * 8;
     say_section(form, 0, directives, 1);
     say_section(form, directives, steps, 8);
     say_section(form, steps, form.len(), 3);
