@@ -1,5 +1,4 @@
 -- The clock, then the date, then the count.
--- the date, once there is one
 use Prim.Native.Nat.{◌<◌}
 use native.Mathlib.Omega.{arith}
 use mir.Syntax.{w32}
@@ -11,11 +10,9 @@ use Rattle.rules.specs.Counter.{seconds_of, OnClock, counted_reply, invalid}
 use Rattle.calendar.proofs.CountLaws.{there, not_there, Near, date_near, days_asks, local_asks, count_asks, count_read, is_counted}
 use borrow.Author.Rules.{rules}
 use Rattle.calendar.proofs.count_from_record.Goals as goal
-use Rattle.calendar.proofs.count_from_record.Goals.{Else-second-gt59, In-At}
+use Rattle.calendar.proofs.count_from_record.Goals.{In-At}
 
-clock : (c : Else-second-gt59) → OnClock c.args.«record»
-clock c = record { hour = omega arith; minute = omega arith; second = omega arith }
-
+-- the date, once there is one
 year_fits : (c : In-At) → SFits w32 c.args.«record».year
 year_fits c = search rules
 
@@ -24,9 +21,6 @@ date c = there (rw (to_z-of_z w32 _ (year_fits c)) at c.day_at.ensures) c.in-At.
 
 few : (c : In-At) → Near c.in-At.day
 few c = date_near (year_fits c) (date c)
-
-seconds : (c : In-At) → seconds_of c.args.«record» < 86400
-seconds c = omega arith
 
 pub returns-then-hour-gt23 : goal.returns-then-hour-gt23
 unfolding counted_reply number_of
@@ -42,16 +36,21 @@ pub overflow_mul-local : goal.overflow_mul-local
 overflow_mul-local c = days_asks (few (goal.at.overflow_mul-local c).In-At)
 
 pub overflow_add-local : goal.overflow_add-local
-overflow_add-local c = local_asks (few (goal.at.overflow_add-local c).In-At) (seconds (goal.at.overflow_add-local c).In-At)
+overflow_add-local c =
+    let seconds : seconds_of c.args.«record» < 86400 = omega arith in
+    local_asks (few (goal.at.overflow_add-local c).In-At) seconds
 
 pub overflow_sub-result : goal.overflow_sub-result
 overflow_sub-result c =
     let d = (goal.at.overflow_sub-result c).In-At in
     let f : SFits w32 c.args.«record».utc_offset = search rules in
-    count_asks (few d) (seconds d) f
+    let seconds : seconds_of c.args.«record» < 86400 = omega arith in
+    count_asks (few d) seconds f
 
 pub returns : goal.returns
 returns c =
     let d = (goal.at.returns c).In-At in
     let f : SFits w32 c.args.«record».utc_offset = search rules in
-    rw (count_read (few d) (seconds d) f) (is_counted _ (date d) (clock (goal.at.returns c).Else-second-gt59))
+    let clock : OnClock c.args.«record» = record { hour = omega arith; minute = omega arith; second = omega arith } in
+    let seconds : seconds_of c.args.«record» < 86400 = omega arith in
+    rw (count_read (few d) seconds f) (is_counted _ (date d) clock)
