@@ -1,4 +1,4 @@
-//! Builds the library with rt, in the repository's root, and links it.
+//! Builds the library with rt, in `crates/groatsaddle`, and links it.
 //! Where GROATSADDLE_LIBRARY names a library that is built already, that one is linked.
 
 use std::env;
@@ -32,7 +32,15 @@ fn built() -> PathBuf {
         ));
     }
     let root = Path::new(env!("CARGO_MANIFEST_DIR")).join("../..");
-    println!("cargo:rerun-if-changed={}", root.join("crates").display());
+    // What rt writes lies in a crate's out/, which is not watched.
+    for entry in root.join("crates").read_dir().into_iter().flatten().flatten() {
+        for part in ["src", "specs", "proofs"] {
+            let folder = entry.path().join(part);
+            if folder.is_dir() {
+                println!("cargo:rerun-if-changed={}", folder.display());
+            }
+        }
+    }
     println!(
         "cargo:rerun-if-changed={}",
         root.join("crates.txt").display()
