@@ -1,47 +1,20 @@
 -- Bytes of the stored form by their positions, and a directive of 8 bytes by what the code tests and reads.
-use mathlib.Core.Path.{◌≡◌, refl, sym, ap, ◌∙◌}
-use mathlib.Core.Bool.{Bool, true, false, not, ◌&&◌, ◌||◌}
-use mathlib.Core.List.{List, [], ◌∷◌}
-use Prim.Native.Nat.{ℕ, ◌+◌, ◌*◌, ◌≤◌, ◌<◌}
+use mathlib.Core.Path.{◌≡◌, sym, ap, ◌∙◌}
+use mathlib.Core.Bool.{Bool, true, false, ◌&&◌}
+use mathlib.Core.List.{List}
+use Prim.Native.Nat.{ℕ, ◌+◌, ◌≤◌, ◌<◌}
 use native.Mathlib.Omega.{arith}
-use lib.Dec.{ltb, leb}
+use lib.Dec.{leb}
 use lib.ListN.{get_or, drop}
 use lib.Seq.{get_or-drop, drop-drop}
-use borrow.Author.Tests.{ne_eqb, le-ltb, lt-leb, le-leb}
+use borrow.Author.Tests.{lt-leb, le-leb}
 use Rattle.rules.specs.declared.Flags.{Flags}
 use Rattle.rules.specs.declared.Padding.{Padding}
 use Rattle.rules.specs.declared.Width.{Width}
 use Rattle.rules.specs.declared.Spec.{Spec}
 use Rattle.rules.specs.declared.Piece.{Piece}
-use Rattle.rules.specs.Reading.{member}
-use Rattle.rules.specs.Stored.{two_of, four_of, coded_spec, spec_from, padding_from, flags_from, width_from, entry_of, is_known, width_taken, entry_taken}
-use Rattle.rules.proofs.CalendarLaws.{every, every_at}
-use Rattle.rules.proofs.MatchLaws.{NoneOf, none_known}
+use Rattle.rules.specs.Stored.{four_of, coded_spec, spec_from, padding_from, flags_from, width_from, entry_of, is_known, width_taken, entry_taken}
 use Rattle.codes.specs.Eight.{Eight}
-
--- ## A code
-
-pub is_code : {b k : ℕ} → b ≡ k → is_known (coded_spec k) ≡ is_known (coded_spec b)
-is_code e = ap (λ (x : ℕ). is_known (coded_spec x)) (sym e)
-
--- no number from `from` on and below `to` is a code but those listed
-abbrev others : List ℕ → ℕ → ℕ → Bool
-others codes from k = not (is_known (coded_spec k)) || (ltb k from || member k codes)
-
-none_member : (k : ℕ) (known : Type 0) (ms : List ℕ) → NoneOf k known ms → member k ms ≡ false
-unfolding member
-none_member k known [] h = refl
-none_member k known (m ∷ ms) h =
-    rw (ne_eqb k m (none_known k (known × (k ≡ m → ⊥)) ms h).1) (none_member k (known × (k ≡ m → ⊥)) ms h)
-
--- the last arm of a match, which knows that the number is none of the codes
-pub no_code : (codes : List ℕ) (from to : ℕ) → every to (others codes from) ≡ true → (k : ℕ) (known : Type 0) → NoneOf k known codes → from ≤ k → k < to → false ≡ is_known (coded_spec k)
-no_code codes from to t k known n h l =
-    go (is_known (coded_spec k)) (ltb k from) (member k codes) (every_at (others codes from) to t k l) (le-ltb k from h) (none_member k known codes n)
-  where
-    go : (x y z : Bool) → (not x || (y || z)) ≡ true → y ≡ false → z ≡ false → false ≡ x
-    go false y z e f g = refl
-    go true y z e f g = rw (f, g) at e
 
 -- ## Bytes by their positions
 
@@ -51,27 +24,6 @@ module _ (s : List ℕ) (at : ℕ) where
 
   pub byte_here : get_or s at 0 ≡ get_or (drop at s) 0 0
   byte_here = ap (λ (i : ℕ). get_or s i 0) (omega arith) ∙ byte_at 0
-
-  pub two_at : get_or s at 0 + get_or s (at + 1) 0 * 256 ≡ two_of (drop at s)
-  two_at = omega (arith, byte_here, byte_at 1)
-
-  pub four_at : get_or s at 0 + get_or s (at + 1) 0 * 256 + get_or s (at + 2) 0 * 65536 + get_or s (at + 3) 0 * 16777216 ≡ four_of (drop at s)
-  four_at = omega (arith, byte_here, byte_at 1, byte_at 2, byte_at 3)
-
-  within : (k : ℕ) → get_or (drop 4 (drop at s)) k 0 ≡ get_or (drop at s) (4 + k) 0
-  within k = get_or-drop 4 (drop at s) k 0
-
-  module _ {a b c d e f g h : ℕ} (ea : a ≡ get_or s at 0) (eb : b ≡ get_or s (at + 1) 0) (ec : c ≡ get_or s (at + 2) 0) (ed : d ≡ get_or s (at + 3) 0) (ee : e ≡ get_or s (at + 4) 0) (ef : f ≡ get_or s (at + 5) 0) (eg : g ≡ get_or s (at + 6) 0) (eh : h ≡ get_or s (at + 7) 0) where
-    pub eight_at : a ≤ 255 → b ≤ 255 → c ≤ 255 → d ≤ 255 → e ≤ 255 → f ≤ 255 → g ≤ 255 → h ≤ 255 →
-        Eight (drop at s) (a + b * 256 + c * 65536 + d * 16777216 + e * 4294967296 + f * 1099511627776 + g * 281474976710656 + h * 72057594037927936)
-    eight_at la lb lc ld le lf lg lh =
-        record {
-          code = omega (arith, byte_here);
-          padding = omega (arith, byte_at 1);
-          flags = omega (arith, byte_at 2);
-          there = omega (arith, byte_at 3);
-          width = omega (arith, byte_at 4, byte_at 5, byte_at 6, byte_at 7, within 0, within 1, within 2, within 3);
-        }
 
   fourth : four_of (drop (at + 4) s) ≡ four_of (drop 4 (drop at s))
   fourth = ap four_of (sym (drop-drop 4 at s))

@@ -1,29 +1,14 @@
 -- Case: of one byte, of a text that is laid byte by byte, and of a zone name.
-use mathlib.Core.Path.{◌≡◌, refl, sym, ap, ◌∙◌}
+use mathlib.Core.Path.{◌≡◌, refl, ap}
 use mathlib.Core.Bool.{true, false}
 use mathlib.Core.List.{List, [], ◌∷◌, map}
-use Prim.Native.Nat.{ℕ, zero, suc, ◌+◌, ◌≤◌, ◌<◌}
+use Prim.Native.Nat.{ℕ, zero, suc, ◌+◌, ◌<◌}
 use native.Mathlib.Omega.{arith}
-use borrow.Author.Tests.{lt-leb}
-use lib.Dec.{leb}
 use lib.ListN.{length, get_or, set, take, length-map}
 use Rattle.rules.specs.declared.Flags.{Flags}
 use Rattle.rules.specs.Name.{in_case, zone_case}
-use Rattle.rules.specs.Record.{within}
 use Rattle.text.proofs.OverlayLaws.{Laid, laid_more}
-use Rattle.fields.proofs.Laws.{least_held, least_failed}
 use Rattle.name_directive.specs.Named.{byte_in}
-
--- ## Where a byte stands to a range of letters
-
-pub inside : (least most n : ℕ) → least ≤ n → leb n most ≡ true → within least most n ≡ true
-inside least most n h t = sym (least_held least most n h) ∙ t
-
-pub above : (least most n : ℕ) → least ≤ n → leb n most ≡ false → within least most n ≡ false
-above least most n h t = sym (least_held least most n h) ∙ t
-
-pub below : (least most n : ℕ) → n < least → within least most n ≡ false
-below least most n h = sym (least_failed least most n h) ∙ lt-leb least n h
 
 -- ## A text laid over a list byte by byte, each byte through f
 

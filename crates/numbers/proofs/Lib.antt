@@ -1,5 +1,4 @@
 pub mod CountLaws
-pub mod DivisionLaws
 pub mod PlacesLaws
 pub mod Signed
 pub mod TextLaws

@@ -1,9 +1,9 @@
 -- How a signed number goes through the machine: what is read back of what was written, and the two signs.
-use Rattle.std.specs.Prelude.{◌≡◌, ℕ, suc, ◌+◌, ◌-◌, ◌<◌, ◌≤◌, true, false, T, ℤ, pos, negsuc, ◌-ℤ◌, nat_abs}
+use Rattle.std.specs.Prelude.{◌≡◌, ℕ, ◌+◌, ◌<◌, ◌≤◌, true, false, T, ℤ, pos, negsuc, nat_abs}
 use mathlib.Core.Path.{refl, ap, ◌∙◌, subst⁻¹}
 use native.Mathlib.Omega.{arith}
 use lib.Signed.{mag, lt_z, le_z, non_neg}
-use borrow.Author.Tests.{ltb-true, le-ltb}
+use borrow.Author.Tests.{ltb-true}
 use mir.Syntax.{Width, w32, w64}
 use mir.Val.{SFits, Fits, of_z, to_z}
 use mir.ValLaws.{to_z-of_z}
@@ -54,20 +54,3 @@ is_pos w x f t = pos_mag x (rw (to_z-of_z w x f) at t)
 
 pub is_nat : (w : Width) (x : ℤ) → SFits w x → le_z (pos 0) (to_z w (of_z w x)) ≡ true → x ≡ pos (mag x)
 is_nat w x f t = nat_mag x (rw (to_z-of_z w x f) at t)
-
--- −1 − (−(n + 1)) is n
-flip_neg : (n : ℕ) → negsuc 0 -ℤ negsuc n ≡ pos n
-flip_neg n =
-    let h : 1 ≤ suc n = omega arith in
-    let e : suc n - 1 ≡ n = omega arith in
-    rw (le-ltb (suc n) 1 h) (ap pos e)
-
--- −1 − x of a negative x, as the code computes it
-pub flipped : (w : Width) (x : ℤ) → SFits w x → lt_z (to_z w (of_z w x)) (pos 0) ≡ true → negsuc 0 -ℤ to_z w (of_z w x) ≡ pos (mag x)
-flipped w x f t = ap (λ (z : ℤ). negsuc 0 -ℤ z) (to_z-of_z w x f ∙ is_neg w x f t) ∙ flip_neg (mag x)
-
-pub flipped_read : (w : Width) (x : ℤ) → SFits w x → lt_z (to_z w (of_z w x)) (pos 0) ≡ true → to_z w (of_z w (negsuc 0 -ℤ to_z w (of_z w x))) ≡ pos (mag x)
-flipped_read w x f t = through w (flipped w x f t) (record { sfits = f.sfits })
-
-pub plain_read : (w : Width) (x : ℤ) → SFits w x → lt_z (to_z w (of_z w x)) (pos 0) ≡ false → to_z w (of_z w x) ≡ pos (mag x)
-plain_read w x f t = to_z-of_z w x f ∙ is_pos w x f t

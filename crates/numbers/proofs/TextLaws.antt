@@ -3,7 +3,6 @@ use Rattle.std.specs.Prelude.{◌≡◌, ℕ, zero, suc, ◌+◌, ◌-◌, ◌�
 use mathlib.Core.Path.{refl, sym, ap, ap₂, ◌∙◌}
 use mathlib.Core.List.{append_assoc}
 use native.Mathlib.Omega.{arith}
-use lib.ListN.{length-append}
 use lib.Seq.{take_at, drop_at, drop-drop}
 use Rattle.rules.specs.Decimal.{digits, digit_count, places, minus_sign, decimal_text}
 use Rattle.rules.proofs.DecimalLaws.{digits_counted, length_decimal, length_decimal_from}
@@ -42,9 +41,6 @@ module _ (z : ℤ) (sign : List ℕ) (rest : ℕ) (s : minus_sign z ≡ sign) (r
 
 -- what a caller of the printer wants of its bytes and count
 module _ (z : ℤ) (bytes rest : List ℕ) (count : ℕ) (e : bytes ≡ decimal_text z ++ rest) (f : count ≡ length (decimal_text z)) where
-  pub text_within : count ≤ length bytes
-  text_within = omega (arith, f, ap length e, length-append (decimal_text z) rest)
-
   pub text_some : 1 ≤ count
   text_some = omega (arith, f, length_decimal_from z)
 

@@ -1,22 +1,15 @@
 -- What the two ways of a test, and the parts of an offset, come to.
-use mathlib.Core.Path.{◌≡◌, refl, sym, ap, ◌∙◌}
-use mathlib.Core.Bool.{Bool, true, false, not, cond, ◌&&◌, ◌||◌}
+use mathlib.Core.Path.{◌≡◌, ap, ◌∙◌}
+use mathlib.Core.Bool.{Bool, not, cond}
 use Prim.Native.Nat.{ℕ, ◌/◌, ◌^◌, ◌<◌}
-use native.Mathlib.Omega.{arith}
-use lib.IntN.{ℤ, pos, negsuc, nat_abs}
-use lib.Signed.{lt_z}
+use lib.IntN.{ℤ, nat_abs}
 use lib.Dec.{T}
 use lib.Ieee.{Float, is_nan}
-use borrow.Author.Tests.{le-ltb}
-use Rattle.rules.specs.Offset.{hours_of, minutes_of, seconds_of, is_negative, minus, extra}
+use Rattle.rules.specs.Offset.{hours_of, minutes_of, seconds_of, minus, extra}
 use Rattle.offset.specs.declared.OffsetParts.{OffsetParts}
 use Rattle.offset.specs.Hour.{hour_of, is_sign_negative, below_ten, whole_hours, is_hour}
 use Rattle.offset.specs.Parts.{parts_for}
 use Rattle.offset.proofs.HourLaws.{hour_sign, hour_below, hour_hours, hour_is, hour_number}
-
-below_zero : (z : ℤ) → lt_z z (pos 0) ≡ is_negative z
-below_zero (pos n) = le-ltb n 0 (omega arith)
-below_zero (negsuc n) = refl
 
 -- what the signed hour gives back
 module _ (negative : Bool) (hours : ℕ) (small : hours < 2 ^ 32) {h : Float} (is : h ≡ hour_of negative hours) where
@@ -38,22 +31,6 @@ module _ (negative : Bool) (hours : ℕ) (small : hours < 2 ^ 32) {h : Float} (i
 
 -- a signed argument z is read back from its bits as y: what was found of y holds of z
 module _ (z y : ℤ) (utc left : Bool) (same : y ≡ z) where
-  test : {b : Bool} → lt_z y (pos 0) ≡ b → is_negative z ≡ b
-  test h = sym (below_zero z) ∙ ap (λ (x : ℤ). lt_z x (pos 0)) (sym same) ∙ h
-
-  -- ## `utc_offset < 0 || is_utc && left`
-
-  pub minus_negative : lt_z y (pos 0) ≡ true → lt_z y (pos 0) ≡ minus left utc z
-  minus_negative h = h ∙ sym (ap (λ (b : Bool). b || (utc && left)) (test h))
-
-  pub minus_utc : lt_z y (pos 0) ≡ false → utc ≡ true → left ≡ minus left utc z
-  minus_utc h u = rw (test h, u)
-
-  pub minus_neither : lt_z y (pos 0) ≡ false → utc ≡ false → utc ≡ minus left utc z
-  minus_neither h u = rw (test h, u)
-
-  -- ## The parts
-
   pub hour_from : {negative : Bool} {n : ℕ} {h : Float} → n ≡ nat_abs y → negative ≡ minus left utc y → h ≡ hour_of negative (n / 3600) → h ≡ hour_of (minus left utc z) (hours_of z)
   hour_from p q r = cc
 

@@ -1,17 +1,16 @@
 -- A year that two tests have shown to be natural and below 10,000: what is read back of it, and its four digits, which are its text.
-use Rattle.std.specs.Prelude.{◌≡◌, ◌<◌, true, T, ℤ, pos, nat_abs}
+use Rattle.std.specs.Prelude.{◌≡◌, ◌<◌, true, ℤ, pos, nat_abs}
 use mathlib.Core.Path.{sym, ap, ◌∙◌}
-use native.Mathlib.Omega.{arith}
 use lib.Dec.{lit≤}
-use lib.Signed.{mag, lt_z, le_z, non_neg}
-use mir.Syntax.{w32, w64}
-use mir.Val.{SFits, Fits, of_z, to_z}
+use lib.Signed.{mag, lt_z, le_z}
+use mir.Syntax.{w64}
+use mir.Val.{SFits, of_z, to_z}
 use mir.ValLaws.{to_z-of_z}
 use borrow.Author.Tests.{ltb-true}
 use Rattle.rules.specs.Decimal.{places}
 use Rattle.rules.specs.Writing.{year_width, year_text}
 use Rattle.rules.proofs.DecimalLaws.{filled_zeros_places}
-use Rattle.numbers.proofs.Signed.{cast_fits, is_nat}
+use Rattle.numbers.proofs.Signed.{is_nat}
 use Rattle.printing.proofs.FilledLaws.{year_filled}
 
 module _ {v : ℤ} (f : SFits w64 v) (s : le_z (pos 0) (to_z w64 (of_z w64 v)) ≡ true) (t : lt_z (to_z w64 (of_z w64 v)) (pos 10000) ≡ true) where
@@ -23,12 +22,6 @@ module _ {v : ℤ} (f : SFits w64 v) (s : le_z (pos 0) (to_z w64 (of_z w64 v)) �
 
   few : mag v < 10000
   few = ltb-true (mag v) 10000 (rw read at t)
-
-  pub four_cast : T (non_neg (to_z w64 (of_z w64 v))) × Fits w32 (nat_abs (to_z w64 (of_z w64 v)))
-  four_cast = cast_fits w32 read (record { fits = omega (arith, few) })
-
-  pub four_below : nat_abs (to_z w64 (of_z w64 v)) < 10000
-  four_below = omega (arith, ap nat_abs read, few)
 
   pub four_text : places 4 (nat_abs (to_z w64 (of_z w64 v))) ≡ year_text v
   four_text =

@@ -19,7 +19,6 @@ pub mod IsoWeeks
 pub mod Joining
 pub mod LetterLaws
 pub mod LimitLaws
-pub mod MatchLaws
 pub mod OneAnswer
 pub mod OriginalWeek
 pub mod PendingEcho

@@ -35,25 +35,25 @@ module _ (r : Record) (zone : List ℕ) where
       (λ e. rw (zone_spec p.spec e) (unfold spec_events lead_of body_of verdict_of fields_of all_ok ok_field zone_ok in rw and-true)) (λ e. refl)
 
   -- a test has no say in the text
-  text_by : (byteOk : ℕ → Bool) (p : Piece) → text_of (events_by byteOk r zone p) ≡ text_of (events_of r zone p)
+  text_by : (byte_ok : ℕ → Bool) (p : Piece) → text_of (events_by byte_ok r zone p) ≡ text_of (events_of r zone p)
   unfolding events_by events_of
-  text_by byteOk p =
+  text_by byte_ok p =
       by_test (λ (es : List Event). text_of es ≡ text_of (spec_events p.spec p r zone)) (is_zone p.spec)
       (λ e. rw (zone_spec p.spec e) (unfold spec_events lead_of body_of text_of in refl)) (λ e. refl)
 
-  item_text : (byteOk : ℕ → Bool) (i : Item) → text_of (item_events (events_by byteOk r zone) i) ≡ text_of (item_events (events_of r zone) i)
+  item_text : (byte_ok : ℕ → Bool) (i : Item) → text_of (item_events (events_by byte_ok r zone) i) ≡ text_of (item_events (events_of r zone) i)
   unfolding item_events
-  item_text byteOk (literal b) = refl
-  item_text byteOk (echo text) = refl
-  item_text byteOk (directive p) = text_by byteOk p
-  item_text byteOk cut = refl
+  item_text byte_ok (literal b) = refl
+  item_text byte_ok (echo text) = refl
+  item_text byte_ok (directive p) = text_by byte_ok p
+  item_text byte_ok cut = refl
 
-  pub items_text : (byteOk : ℕ → Bool) (is : List Item) → text_of (events (events_by byteOk r zone) is) ≡ text_of (events (events_of r zone) is)
+  pub items_text : (byte_ok : ℕ → Bool) (is : List Item) → text_of (events (events_by byte_ok r zone) is) ≡ text_of (events (events_of r zone) is)
   unfolding events
-  items_text byteOk [] = refl
-  items_text byteOk (i ∷ is) =
-      text_join (item_events (events_by byteOk r zone) i) (events (events_by byteOk r zone) is)
-      ∙ ap₂ ◌++◌ (item_text byteOk i) (items_text byteOk is)
+  items_text byte_ok [] = refl
+  items_text byte_ok (i ∷ is) =
+      text_join (item_events (events_by byte_ok r zone) i) (events (events_by byte_ok r zone) is)
+      ∙ ap₂ ◌++◌ (item_text byte_ok i) (items_text byte_ok is)
       ∙ sym (text_join (item_events (events_of r zone) i) (events (events_of r zone) is))
 
 pub by_the_rules : formatted_by zone_byte_ok ≡ formatted

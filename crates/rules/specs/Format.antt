@@ -107,12 +107,12 @@ valid format = leb (length format) longest_format && eqb (fault (items format)) 
 
 -- "The size limit is format length times 524,288"
 abbrev pub limit_of : ℕ → ℕ
-limit_of formatLength = formatLength * 524288
+limit_of format_length = format_length * 524288
 
 -- "Longest inputs"
 abbrev pub inputs : ℕ → ℕ → ℕ → List Event
-inputs formatLength zone_length room =
-    check (leb formatLength longest_format) 5 ∷ check (leb zone_length longest_zone) 5 ∷ check (leb room longest_buffer) 5 ∷ []
+inputs format_length zone_length room =
+    check (leb format_length longest_format) 5 ∷ check (leb zone_length longest_zone) 5 ∷ check (leb room longest_buffer) 5 ∷ []
 
 -- "5 first, even for an empty format."
 abbrev pub lengths_first : List ℕ → List ℕ → ℕ → List Event → List Event

@@ -305,14 +305,14 @@ compiled format room = run 0 room (compile_events format room)
 
 -- 5; then "BadStored (11), before any text"; then the parts
 unfoldable pub stored_events : List ℕ → ℕ → List ℕ → Record → ℕ → List Event
-stored_events s formatLength zone r room =
-    check (leb formatLength longest_format) 5 ∷ check (leb (length zone) longest_zone) 5 ∷ check (leb room longest_buffer) 5
+stored_events s format_length zone r room =
+    check (leb format_length longest_format) 5 ∷ check (leb (length zone) longest_zone) 5 ∷ check (leb room longest_buffer) 5
     ∷ check (well_stored s) 11 ∷ part_events (events_of r zone) (loaded s)
 
 -- the outcome for stored bytes, a zone name, a record and a buffer of `room` bytes. "the original format length is passed along .. and it limits
 -- only pads"
 unfoldable pub formatted_stored : List ℕ → ℕ → List ℕ → Record → ℕ → Outcome
-formatted_stored s formatLength zone r room = run (limit_of formatLength) room (stored_events s formatLength zone r room)
+formatted_stored s format_length zone r room = run (limit_of format_length) room (stored_events s format_length zone r room)
 
 -- ## What 8 bytes say
 

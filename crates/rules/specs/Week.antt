@@ -44,32 +44,32 @@ pub record YearAndWeek : Type 0 where
   pub week : ℤ
 
 abbrev pub start_of_first_week : ℤ → ℤ → ℤ
-start_of_first_week weekDay year_day =
-    let start = floor_mod (year_day -ℤ weekDay +ℤ pos 1) 7 in
+start_of_first_week week_day year_day =
+    let start = floor_mod (year_day -ℤ week_day +ℤ pos 1) 7 in
     cond (ltb 3 start) (pos start -ℤ pos 7) (pos start)
 
 abbrev pub last_year_day : ℤ → ℤ
 last_year_day year = cond (is_leap year) (pos 365) (pos 364)
 
 abbrev pub week_day_of_last : ℤ → ℤ → ℤ → ℤ
-week_day_of_last year weekDay year_day = rem_z (weekDay +ℤ last_year_day year -ℤ year_day) (pos 7)
+week_day_of_last year week_day year_day = rem_z (week_day +ℤ last_year_day year -ℤ year_day) (pos 7)
 
 abbrev pub in_last_week : ℤ → ℤ → ℤ → Bool
-in_last_week year weekDay year_day =
-    let last = week_day_of_last year weekDay year_day in
+in_last_week year week_day year_day =
+    let last = week_day_of_last year week_day year_day in
     le_z (pos 1) last && (le_z last (pos 3) && le_z (last_year_day year -ℤ (last -ℤ pos 1)) year_day)
 
 abbrev pub current_or_next : ℤ → ℤ → ℤ → YearAndWeek
-current_or_next year weekDay year_day =
-    let week = quot_z (year_day +ℤ pos 7 -ℤ start_of_first_week weekDay year_day) (pos 7) in
-    cond (le_z (pos 52) week && in_last_week year weekDay year_day) (record { year = year +ℤ pos 1; week = pos 1 }) (record { year = year; week = week })
+current_or_next year week_day year_day =
+    let week = quot_z (year_day +ℤ pos 7 -ℤ start_of_first_week week_day year_day) (pos 7) in
+    cond (le_z (pos 52) week && in_last_week year week_day year_day) (record { year = year +ℤ pos 1; week = pos 1 }) (record { year = year; week = week })
 
 -- "before week one it starts again once with the year before": `restarts` are left
 unfoldable pub iso8601_year_and_week_number : ℕ → ℤ → ℤ → ℤ → YearAndWeek
-iso8601_year_and_week_number zero year weekDay yearDay1 = current_or_next year weekDay (yearDay1 -ℤ pos 1)
-iso8601_year_and_week_number (suc restarts) year weekDay yearDay1 =
-    let year_day = yearDay1 -ℤ pos 1 in
+iso8601_year_and_week_number zero year week_day year_day_1 = current_or_next year week_day (year_day_1 -ℤ pos 1)
+iso8601_year_and_week_number (suc restarts) year week_day year_day_1 =
+    let year_day = year_day_1 -ℤ pos 1 in
     let before = year -ℤ pos 1 in
-    cond (lt_z year_day (start_of_first_week weekDay year_day))
-    (iso8601_year_and_week_number restarts before weekDay (cond (is_leap before) (pos 366) (pos 365) +ℤ year_day +ℤ pos 1))
-    (current_or_next year weekDay year_day)
+    cond (lt_z year_day (start_of_first_week week_day year_day))
+    (iso8601_year_and_week_number restarts before week_day (cond (is_leap before) (pos 366) (pos 365) +ℤ year_day +ℤ pos 1))
+    (current_or_next year week_day year_day)

@@ -25,10 +25,10 @@ is_zone TimeZoneName = true
 is_zone (fixed f) = false
 is_zone (combination c) = false
 
-module _ (byteOk : ℕ → Bool) where
+module _ (byte_ok : ℕ → Bool) where
   -- `Z` checks that every byte passes the test, and then writes; every other directive has its events by the rules
   unfoldable pub events_by : Record → List ℕ → Piece → List Event
-  events_by r zone p = cond (is_zone p.spec) (judged (verdict (each_byte byteOk zone)) ∷ map write (zone_writes p zone)) (events_of r zone p)
+  events_by r zone p = cond (is_zone p.spec) (judged (verdict (each_byte byte_ok zone)) ∷ map write (zone_writes p zone)) (events_of r zone p)
 
   unfoldable pub formatted_by : Outcomes
   formatted_by format zone r room = run (limit_of (length format)) room (lengths_first format zone room (events (events_by r zone) (items format)))
@@ -37,7 +37,7 @@ module _ (byteOk : ℕ → Bool) where
   pub record GoodStampBy (longest : ℕ) (r : Record) (zone : List ℕ) : Type 0 where
     pub typed : Typed r
     pub in_range : InRange r []
-    pub bytes : each_byte byteOk zone ≡ true
+    pub bytes : each_byte byte_ok zone ≡ true
     pub short : length zone ≤ longest
 
   -- demand 3 over the names whose bytes pass

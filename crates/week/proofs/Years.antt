@@ -2,14 +2,14 @@
 use mathlib.Core.Path.{◌≡◌, refl, sym, ap, ◌∙◌, subst⁻¹}
 use mathlib.Core.Bool.{Bool, true, false, not, ◌&&◌, ◌||◌}
 use mathlib.Core.Logic.{◌⊎◌, inl, inr, ⊎_elim}
-use Prim.Native.Nat.{ℕ, zero, suc, ◌+◌, ◌-◌, ◌/◌, ◌%◌, ◌^◌, ◌<◌, ◌≤◌}
-use native.Mathlib.Nat.{div-le_self, mod-lt, mod_self, mod-eq_of_lt, suc-mod}
+use Prim.Native.Nat.{ℕ, zero, suc, ◌+◌, ◌-◌, ◌%◌, ◌^◌, ◌<◌, ◌≤◌}
+use native.Mathlib.Nat.{mod-lt, mod_self, mod-eq_of_lt, suc-mod}
 use native.Mathlib.Decide.{dec_lt}
 use native.Mathlib.Omega.{arith}
 use borrow.Author.Tests.{eq-eqb, ne_eqb}
 use lib.Dec.{eqb}
 use lib.IntN.{ℤ, pos, negsuc, neg_ℤ}
-use lib.Signed.{mag, quot_z, rem_z}
+use lib.Signed.{mag, rem_z}
 use mir.Syntax.{w64}
 use mir.Val.{SFits, to_z, of_z}
 use mir.ValLaws.{to_z-of_z}
@@ -18,17 +18,6 @@ use Rattle.rules.specs.Calendar.{is_leap}
 use Rattle.numbers.proofs.Signed.{through}
 
 -- ## Remainders
-
-mag_neg : (r : ℕ) {a : ℕ} → r ≤ suc a → mag (neg_ℤ (pos r)) ≤ a
-mag_neg zero h = omega arith
-mag_neg (suc r) h = omega arith
-
-quot_mag : (y : ℤ) (m : ℕ) → mag (quot_z y (pos m)) ≤ mag y
-quot_mag (pos a) m = div-le_self a m
-quot_mag (negsuc a) m = mag_neg (suc a / m) (div-le_self (suc a) m)
-
-pub quot_fits : (m : ℕ) {y : ℤ} → SFits w64 y → SFits w64 (quot_z (to_z w64 (of_z w64 y)) (pos m))
-quot_fits m {y} f = subst⁻¹ (λ (z : ℤ). SFits w64 (quot_z z (pos m))) (to_z-of_z w64 y f) (record { sfits = omega (arith, quot_mag y m, f.sfits) })
 
 -- the remainder by m, with the year's sign
 abbrev pub rest : ℕ → ℤ → ℕ

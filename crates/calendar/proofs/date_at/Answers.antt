@@ -52,5 +52,5 @@ lowered-requires c = (omega (arith, few (goal.at.lowered-requires c).After-year_
 
 pub returns : goal.returns
 returns c =
-    let d = c in rw (to_z-of_z w64 _ (record { sfits = c.lowered.type_inv }))
-    (date_for (n_is (goal.at.returns d).After-raised-n) c.lowered.ensures d.year_at-z.ensures (year (goal.at.returns d).After-days_of).0 c.month_at-m.ensures c.month_start.ensures.0)
+    rw (to_z-of_z w64 _ (record { sfits = c.lowered.type_inv }))
+    (date_for (n_is (goal.at.returns c).After-raised-n) c.lowered.ensures c.year_at-z.ensures (year (goal.at.returns c).After-days_of).0 c.month_at-m.ensures c.month_start.ensures.0)

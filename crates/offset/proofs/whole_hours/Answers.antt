@@ -8,11 +8,11 @@ is_sign_negative-requires c = hour_not_nan c.args.hour c.requires
 
 pub float_to_int-result : goal.float_to_int-result
 float_to_int-result c =
-    let start = c in cast_fits start.args.hour true c.is_sign_negative.ensures c.if-is_sign_negative.true start.requires
+    cast_fits c.args.hour true c.is_sign_negative.ensures c.if-is_sign_negative.true c.requires
 
 pub float_to_int-result-else-is_sign_negative : goal.float_to_int-result-else-is_sign_negative
 float_to_int-result-else-is_sign_negative c =
-    let start = c in cast_fits start.args.hour false c.is_sign_negative.ensures c.if-is_sign_negative.false start.requires
+    cast_fits c.args.hour false c.is_sign_negative.ensures c.if-is_sign_negative.false c.requires
 
 pub returns-then-is_sign_negative : goal.returns-then-is_sign_negative
 returns-then-is_sign_negative c = cast_is c.args.hour true c.is_sign_negative.ensures c.if-is_sign_negative.true

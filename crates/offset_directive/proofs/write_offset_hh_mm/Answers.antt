@@ -9,5 +9,5 @@ use Rattle.offset_directive.proofs.write_offset_hh_mm.Goals as goal
 
 pub returns : goal.returns
 unfolding length_of_form
-returns c = let s = c in hour_then hh:mm _ _ _ c.write_offset_hour-next.ensures
-    (said (colon_minute _ _ (two_is s.args.parts.minute (omega (arith, s.requires.1.minutes)) c.tens.ensures c.ones.ensures)) (c.put.ensures _))
+returns c = hour_then hh:mm _ _ _ c.write_offset_hour-next.ensures
+    (said (colon_minute _ _ (two_is c.args.parts.minute (omega (arith, c.requires.1.minutes)) c.tens.ensures c.ones.ensures)) (c.put.ensures _))

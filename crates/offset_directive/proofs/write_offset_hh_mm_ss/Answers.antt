@@ -9,8 +9,8 @@ use Rattle.offset_directive.proofs.write_offset_hh_mm_ss.Goals as goal
 
 pub returns : goal.returns
 unfolding length_of_form
-returns c = let s = c in hour_then hh:mm:ss _ _ _ c.write_offset_hour-next.ensures
+returns c = hour_then hh:mm:ss _ _ _ c.write_offset_hour-next.ensures
     (said
-    (colons_minute_second _ _ (two_is s.args.parts.minute (omega (arith, s.requires.1.minutes)) c.tens.ensures c.ones.ensures)
-    (two_is s.args.parts.second (omega (arith, s.requires.1.seconds)) c.tens-2.ensures c.ones-2.ensures))
+    (colons_minute_second _ _ (two_is c.args.parts.minute (omega (arith, c.requires.1.minutes)) c.tens.ensures c.ones.ensures)
+    (two_is c.args.parts.second (omega (arith, c.requires.1.seconds)) c.tens-2.ensures c.ones-2.ensures))
     (c.put.ensures _))

@@ -10,8 +10,8 @@ use Rattle.printing.proofs.year_length.Goals.{After-put_decimal-length}
 
 length_is : (c : After-put_decimal-length) → c.put_decimal-length.result ≡ length (decimal_text c.args.year)
 length_is c =
-    let s = c in let y = s.args.year in
-    let f = s.ranges.year in
+    let y = c.args.year in
+    let f = c.ranges.year in
     let t = rw (widened y f) at (c.put_decimal-length.ensures 0) in
     let l = length_filled zeros 0 y in
     omega (arith, place_after t (omega (arith, length_text_to y (omega (arith, f.sfits)))) (omega arith))
@@ -20,7 +20,7 @@ pub overflow_cast-year : goal.overflow_cast-year
 overflow_cast-year c = widens _ c.ranges.year
 
 pub returns-then-length-least : goal.returns-then-length-least
-returns-then-length-least c = let s = c in omega (arith, length_is (goal.at.returns-then-length-least c).After-put_decimal-length, length_filled zeros s.args.least s.args.year)
+returns-then-length-least c = omega (arith, length_is (goal.at.returns-then-length-least c).After-put_decimal-length, length_filled zeros c.args.least c.args.year)
 
 pub returns-else-length-least : goal.returns-else-length-least
-returns-else-length-least c = let s = c in omega (arith, length_is (goal.at.returns-else-length-least c).After-put_decimal-length, length_filled zeros s.args.least s.args.year)
+returns-else-length-least c = omega (arith, length_is (goal.at.returns-else-length-least c).After-put_decimal-length, length_filled zeros c.args.least c.args.year)

@@ -11,11 +11,11 @@ returns-then-letter-b c = member_at _ _ _ (omega arith) c.if-letter-b.true
 
 pub loop-low-preserved-then-letter-b-2 : goal.loop-low-preserved-then-letter-b-2
 loop-low-preserved-then-letter-b-2 c =
-    let s = c in upper_half _ _ _ _ s.loop-low.invariant s.requires _ (omega arith) c.if-letter-b-2.true
+    upper_half _ _ _ _ c.loop-low.invariant c.requires _ (omega arith) c.if-letter-b-2.true
 
 pub loop-low-preserved : goal.loop-low-preserved
 loop-low-preserved c =
-    let s = c in lower_half _ _ _ _ s.loop-low.invariant s.requires _ (omega arith) (omega arith)
+    lower_half _ _ _ _ c.loop-low.invariant c.requires _ (omega arith) (omega arith)
 
 pub returns : goal.returns
 returns c = nowhere _ _ _ _ c.loop-low.invariant c.loop-low-test.false

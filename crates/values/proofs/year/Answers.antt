@@ -20,5 +20,5 @@ wide-requires c = omega (arith, width_is (goal.at.wide-requires c).After-year_wi
 
 pub returns : goal.returns
 returns c =
-    let s = c in subst (λ (w : ℕ). Valued s.args.ok s.args.year w false c.wide.result) (width_is (goal.at.returns c).After-year_width)
-    (renumbered (to_z-of_z w64 _ s.ranges.year) c.wide.ensures)
+    subst (λ (w : ℕ). Valued c.args.ok c.args.year w false c.wide.result) (width_is (goal.at.returns c).After-year_width)
+    (renumbered (to_z-of_z w64 _ c.ranges.year) c.wide.ensures)

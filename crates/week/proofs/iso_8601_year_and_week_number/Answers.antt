@@ -1,5 +1,4 @@
 -- The original's function with one restart answers the rules' ISO week; between week one and week 52 it is the week of the year itself.
--- an answer back from the original's numbers
 use mathlib.Core.Path.{ap, ◌∙◌, subst⁻¹}
 use Prim.Native.Nat.{◌+◌, ◌-◌, ◌/◌}
 use native.Mathlib.Omega.{arith}
@@ -14,6 +13,7 @@ use Rattle.week.proofs.Outcomes.{below_52, week_one_lem, begun}
 use Rattle.week.proofs.iso_8601_year_and_week_number.Goals as goal
 use Rattle.week.proofs.iso_8601_year_and_week_number.Goals.{Start}
 
+-- an answer back from the original's numbers
 abbrev back : YearAndWeek → IsoWeek
 back r = record { year = r.year; week = nat_abs r.week }
 
@@ -41,13 +41,13 @@ overflow_cast-result c = widens _ c.ranges.year
 
 pub returns-then-week-lt52 : goal.returns-then-week-lt52
 returns-then-week-lt52 c =
-    let s = c in let a = s.args in
-    let p = s.requires in
+    let a = c.args in
+    let p = c.requires in
     let q = c.start_of_first_week-start.ensures in
-    ap (λ (y : ℤ). record { year = y; week = (a.year_day_1 - 1 + 14 - c.start_of_first_week-start.result) / 7 }) (widened _ s.ranges.year)
+    ap (λ (y : ℤ). record { year = y; week = (a.year_day_1 - 1 + 14 - c.start_of_first_week-start.result) / 7 }) (widened _ c.ranges.year)
     ∙ ap back
-    (below_52 _ _ _ _ (week_one_lem _ _ _ _ _ (once (goal.at.returns-then-week-lt52 s).Start) q) c.if-week-lt52.true
-    ∙ begun _ _ _ _ _ (once (goal.at.returns-then-week-lt52 s).Start) q c.if-start-year_day.true
+    (below_52 _ _ _ _ (week_one_lem _ _ _ _ _ (once (goal.at.returns-then-week-lt52 c).Start) q) c.if-week-lt52.true
+    ∙ begun _ _ _ _ _ (once (goal.at.returns-then-week-lt52 c).Start) q c.if-start-year_day.true
     ∙ iso_original a.year a.week_day a.year_day_1 p.0 p.1 p.2)
 
 pub overflow_cast-year : goal.overflow_cast-year
@@ -55,13 +55,13 @@ overflow_cast-year c = widens _ c.ranges.year
 
 pub year_and_week_number-requires : goal.year_and_week_number-requires
 year_and_week_number-requires c =
-    let s = c in subst⁻¹ (λ (z : ℤ). Restarts z s.args.week_day s.args.year_day_1 1) (widened _ s.ranges.year) (once (goal.at.year_and_week_number-requires s).Start)
+    subst⁻¹ (λ (z : ℤ). Restarts z c.args.week_day c.args.year_day_1 1) (widened _ c.ranges.year) (once (goal.at.year_and_week_number-requires c).Start)
 
 pub returns : goal.returns
 returns c =
-    let s = c in let a = s.args in
-    let p = s.requires in
+    let a = c.args in
+    let p = c.requires in
     ap back
     (c.year_and_week_number.ensures
-    ∙ ap (λ (z : ℤ). iso8601_year_and_week_number 1 z (pos a.week_day) (pos a.year_day_1)) (widened _ s.ranges.year)
+    ∙ ap (λ (z : ℤ). iso8601_year_and_week_number 1 z (pos a.week_day) (pos a.year_day_1)) (widened _ c.ranges.year)
     ∙ iso_original a.year a.week_day a.year_day_1 p.0 p.1 p.2)
