@@ -1,15 +1,13 @@
--- Checks one after the other: of fields, of the two ends of a range, of the bytes of a zone name.
+-- Checks one after the other: of fields, of the bytes of a zone name.
 use mathlib.Core.Path.{◌≡◌, refl, sym, ◌∙◌}
 use mathlib.Core.Bool.{Bool, true, false, ◌&&◌, and-true, and_assoc}
 use mathlib.Core.List.{List, [], ◌∷◌, ◌++◌}
 use Prim.Native.Nat.{ℕ, ◌+◌, ◌≤◌, ◌<◌}
 use native.Mathlib.Numerals.{add-one}
-use lib.Dec.{leb}
 use lib.ListN.{length, drop, get_or, drop_of_length-le}
 use lib.Seq.{drop-cons}
-use borrow.Author.Tests.{le-leb, lt-leb}
 use Rattle.rules.specs.declared.Record.{Record}
-use Rattle.rules.specs.Record.{Field, ok_field, all_ok, within, zone_byte_ok, zone_ok}
+use Rattle.rules.specs.Record.{Field, ok_field, all_ok, zone_byte_ok, zone_ok}
 
 -- ## `a && b`: it is b where a holds, else a
 
@@ -18,14 +16,6 @@ and_held b h = rw h
 
 and_failed : {a : Bool} (b : Bool) → a ≡ false → a ≡ (a && b)
 and_failed b h = rw h
-
--- ## A range
-
-pub least_held : (least most n : ℕ) → least ≤ n → leb n most ≡ within least most n
-least_held least most n h = and_held (leb n most) (le-leb least n h)
-
-pub least_failed : (least most n : ℕ) → n < least → leb least n ≡ within least most n
-least_failed least most n h = and_failed (leb n most) (lt-leb least n h)
 
 -- ## Fields
 
@@ -39,10 +29,10 @@ module _ (r : Record) (zone : List ℕ) where
   unfolding all_ok
   alone f h = h ∙ sym (and-true (ok_field f r zone))
 
-  pub held : (fs gs : List Field) {a b : Bool} → a ≡ all_ok fs r zone → a ≡ true → b ≡ all_ok gs r zone → b ≡ all_ok (fs ++ gs) r zone
+  held : (fs gs : List Field) {a b : Bool} → a ≡ all_ok fs r zone → a ≡ true → b ≡ all_ok gs r zone → b ≡ all_ok (fs ++ gs) r zone
   held fs gs p h q = q ∙ and_held (all_ok gs r zone) (sym p ∙ h) ∙ sym (all_join fs gs)
 
-  pub failed : (fs gs : List Field) {a : Bool} → a ≡ all_ok fs r zone → a ≡ false → a ≡ all_ok (fs ++ gs) r zone
+  failed : (fs gs : List Field) {a : Bool} → a ≡ all_ok fs r zone → a ≡ false → a ≡ all_ok (fs ++ gs) r zone
   failed fs gs p h = p ∙ and_failed (all_ok gs r zone) (sym p ∙ h) ∙ sym (all_join fs gs)
 
   pub two_held : (f g : Field) {a b : Bool} → a ≡ ok_field f r zone → a ≡ true → b ≡ ok_field g r zone → b ≡ all_ok (f ∷ g ∷ []) r zone

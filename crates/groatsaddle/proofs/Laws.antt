@@ -1,4 +1,4 @@
--- What crosses to a C caller: the record, the length, the answer.
+-- What crosses to a C caller: a yes or no, the length, the answer.
 use mathlib.Core.Path.{◌≡◌, refl, ◌∙◌}
 use mathlib.Core.Bool.{Bool, true, false, cond}
 use mathlib.Core.List.{List}

@@ -1,4 +1,4 @@
--- Case: of one byte, of a text that is laid byte by byte, and of a zone name.
+-- Case: of a text that is laid byte by byte, and of a zone name.
 use mathlib.Core.Path.{◌≡◌, refl, ap}
 use mathlib.Core.Bool.{true, false}
 use mathlib.Core.List.{List, [], ◌∷◌, map}

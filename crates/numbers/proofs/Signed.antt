@@ -1,20 +1,16 @@
 -- How a signed number goes through the machine: what is read back of what was written, and the two signs.
-use Rattle.std.specs.Prelude.{◌≡◌, ℕ, ◌+◌, ◌<◌, ◌≤◌, true, false, T, ℤ, pos, negsuc, nat_abs}
+use Rattle.std.specs.Prelude.{◌≡◌, ◌+◌, ◌<◌, ◌≤◌, true, false, ℤ, pos, negsuc, nat_abs}
 use mathlib.Core.Path.{refl, ap, ◌∙◌, subst⁻¹}
 use native.Mathlib.Omega.{arith}
-use lib.Signed.{mag, lt_z, le_z, non_neg}
+use lib.Signed.{mag, lt_z, le_z}
 use borrow.Author.Tests.{ltb-true}
 use mir.Syntax.{Width, w32, w64}
-use mir.Val.{SFits, Fits, of_z, to_z}
+use mir.Val.{SFits, of_z, to_z}
 use mir.ValLaws.{to_z-of_z}
 
 -- what is read back of a value that is known to be z
 pub through : (w : Width) {y z : ℤ} → y ≡ z → SFits w z → to_z w (of_z w y) ≡ z
 through w {y} {z} e f = ap (λ (k : ℤ). to_z w (of_z w k)) e ∙ to_z-of_z w z f
-
--- what a cast to an unsigned width asks of a value that is known to be n
-pub cast_fits : (w : Width) {z : ℤ} {n : ℕ} → z ≡ pos n → Fits w n → T (non_neg z) × Fits w (nat_abs z)
-cast_fits w e f = subst⁻¹ (λ (z : ℤ). T (non_neg z) × Fits w (nat_abs z)) e (tt, f)
 
 -- an i32 as an i64
 widened_fits : (z : ℤ) → SFits w32 z → SFits w64 z
@@ -33,11 +29,11 @@ abs_le (pos n) = omega arith
 abs_le (negsuc n) = omega arith
 
 -- the sign, from the test x < 0
-pub neg_mag : (x : ℤ) → lt_z x (pos 0) ≡ true → x ≡ negsuc (mag x)
+neg_mag : (x : ℤ) → lt_z x (pos 0) ≡ true → x ≡ negsuc (mag x)
 neg_mag (pos n) t = let h : n < 0 = ltb-true n 0 t in absurd (omega arith)
 neg_mag (negsuc n) t = refl
 
-pub pos_mag : (x : ℤ) → lt_z x (pos 0) ≡ false → x ≡ pos (mag x)
+pos_mag : (x : ℤ) → lt_z x (pos 0) ≡ false → x ≡ pos (mag x)
 pos_mag (pos n) t = refl
 pos_mag (negsuc n) t = let z : true ≡ false = t in cc
 

@@ -1,4 +1,4 @@
--- What the two ways of a test, and the parts of an offset, come to.
+-- What the parts of an offset come to.
 use mathlib.Core.Path.{◌≡◌, ap, ◌∙◌}
 use mathlib.Core.Bool.{Bool, not, cond}
 use Prim.Native.Nat.{ℕ, ◌/◌, ◌^◌, ◌<◌}
