@@ -23,7 +23,11 @@ OTHER = {name: name.replace("-", "_") + "_lem" for name in (
 ).split()}
 # A lemma of the library, named in a pattern of ours.
 KEPT = {"eqb-false"}
-OTHER |= {"tooLong": "is_too_long", "noBuffer": "has_no_buffer", "year-day": "day_of_year"}
+OTHER |= {"tooLong": "is_too_long", "noBuffer": "has_no_buffer", "year-day": "day_of_year", "notALetter": "not_a_letter"}
+# Variables of the rules' definitions.
+LOCALS = {"weekDay": "week_day", "yearDay1": "year_day_1", "formatLength": "format_length", "byteOk": "byte_ok"}
+# A lemma with the name of a function of src/, which keeps it.
+OF_SOURCE = {"count_at"}
 
 
 def snake(name):
@@ -73,6 +77,7 @@ def main(argv):
         new = OTHER.get(name, snake(name))
         if new != name and name not in KEPT and not name[:1].isupper():
             change[name] = new
+    change |= LOCALS
     taken = {}
     for old, new in change.items():
         taken.setdefault(new, []).append(old)
@@ -113,6 +118,8 @@ def quoted(text, change):
 def turn(path, text, change):
     if path.endswith(".md"):
         return quoted(text, change)
+    if path.endswith(".rt"):
+        change = {old: new for old, new in change.items() if old not in OF_SOURCE}
     mark = "--" if path.endswith(".antt") else "//"
     out = []
     for line in text.split("\n"):
