@@ -1,4 +1,5 @@
 -- The count of a day, a second of the day and an offset, in the numbers of an i64.
+use Rattle.std.specs.Prelude.{Option, Some, None, Ok}
 use mathlib.Core.Path.{◌≡◌, ap, ap₂, subst}
 use Prim.Native.Nat.{ℕ, ◌<◌}
 use native.Mathlib.Omega.{arith}
@@ -8,21 +9,18 @@ use mir.Syntax.{w32, w64}
 use mir.Val.{SFits, to_z, of_z}
 use mir.ValLaws.{to_z-of_z, to_z_pos}
 use Rattle.rules.specs.declared.Record.{Record}
-use Rattle.rules.specs.declared.Counted.TheVariants as of-counted
 use Rattle.rules.specs.Calendar.{Exists, DateOf}
 use Rattle.rules.specs.Counter.{counted_reply, seconds_of, OnClock, count_of, CountedBy, counted}
 use Rattle.rules.proofs.Shift.{Is, is_pos, is_add, is_minus, is_times, shift_within, within_shift}
 use Rattle.rules.proofs.CounterLaws.{day_near}
 use Rattle.numbers.proofs.Signed.{through, widened}
-use Rattle.calendar.specs.declared.Day.{Day}
-use Rattle.calendar.specs.declared.Day.TheVariants as of-day
 use Rattle.calendar.specs.Inner.{DayFor, found, missing}
 
-pub there : {y day : ℤ} {m d : ℕ} {r : Day} → DayFor y m d r → r ≡ of-day.At day → DateOf day y m d
+pub there : {y day : ℤ} {m d : ℕ} {r : Option ℤ} → DayFor y m d r → r ≡ Some day → DateOf day y m d
 there {y} {m = m} {d = d} (found w) e = subst (λ (n : ℤ). DateOf n y m d) (cc) w
 there (missing f) e = let z : ◌≡◌ {A = ℕ} 0 1 = cc in absurd (omega arith)
 
-pub not_there : {y : ℤ} {m d : ℕ} {r : Day} → DayFor y m d r → r ≡ of-day.Missing → Exists y m d → ⊥
+pub not_there : {y : ℤ} {m d : ℕ} {r : Option ℤ} → DayFor y m d r → r ≡ None → Exists y m d → ⊥
 not_there (found w) e = let z : ◌≡◌ {A = ℕ} 0 1 = cc in absurd (omega arith)
 not_there (missing f) e = f
 
@@ -75,6 +73,6 @@ module _ {day : ℤ} (h : Near day) where
       pub count_read : to_z w64 (of_z w64 count) ≡ day *ℤ pos 86400 +ℤ pos s -ℤ o
       count_read = through w64 count_is count_fits
 
-pub is_counted : (r : Record) {day : ℤ} → DateOf day r.year r.month r.day → OnClock r → CountedBy r (counted_reply (of-counted.Count (day *ℤ pos 86400 +ℤ pos (seconds_of r) -ℤ r.utc_offset)))
+pub is_counted : (r : Record) {day : ℤ} → DateOf day r.year r.month r.day → OnClock r → CountedBy r (counted_reply (Ok (day *ℤ pos 86400 +ℤ pos (seconds_of r) -ℤ r.utc_offset)))
 unfolding counted_reply count_of
 is_counted r w c = rw (← w.number) (counted (record { date = w.exists; clock = c }))

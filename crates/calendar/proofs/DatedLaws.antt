@@ -1,14 +1,15 @@
 -- The record of a local time, from its day and second.
+use Rattle.std.specs.Prelude.{Option, Some, None, SomeIff, Result, Ok, Err, OkIff}
 use mathlib.Core.Path.{◌≡◌, refl, sym, ap, ◌∙◌}
-use mathlib.Core.Bool.{Bool, true, false}
-use mathlib.Core.Logic.{◌⊎◌, inl, inr}
+use mathlib.Core.Bool.{Bool}
 use Prim.Native.Nat.{ℕ, ◌+◌, ◌*◌, ◌/◌, ◌%◌, ◌<◌, ◌≤◌}
 use native.Mathlib.Omega.{arith}
-use borrow.Author.Tests.{ltb-true, ltb-false}
 use lib.Dec.{lit<}
 use lib.IntN.{ℤ, pos, negsuc, ◌+ℤ◌}
-use lib.Signed.{mag, lt_z}
-use Rattle.rules.specs.declared.Dated.TheVariants as of-dated
+use lib.Signed.{mag}
+use mir.Syntax.{w32, w64}
+use mir.Val.{SFits, of_z, to_z}
+use mir.ValLaws.{to_z-of_z}
 use Rattle.rules.specs.declared.Refusal.TheVariants.{OutOfRange}
 use Rattle.rules.specs.Record.{InI32, InI64}
 use Rattle.rules.specs.Refusal.{number_of}
@@ -16,18 +17,22 @@ use Rattle.rules.specs.Decimal.{floor_div, floor_mod}
 use Rattle.rules.specs.Calendar.{weekday_of, DateOf}
 use Rattle.rules.specs.Counter.{dated_reply, DatedBy, year_leaves, made}
 use Rattle.rules.proofs.FloorLaws.{mod_below}
-use Rattle.calendar.specs.declared.Local.{Local}
-use Rattle.calendar.specs.declared.Local.TheVariants as of-local
+use Rattle.numbers.proofs.Signed.{widened}
 use Rattle.calendar.specs.declared.Date.{Date}
-use Rattle.calendar.specs.Inner.{LocalFor, at, out, DateFor}
+use Rattle.calendar.specs.Inner.{DateFor}
 
-pub local_at : {count offset local : ℤ} {r : Local} → LocalFor count offset r → r ≡ of-local.At local → (local ≡ count +ℤ offset) × InI64 (count +ℤ offset)
-local_at (at f) e = (cc, f)
-local_at (out f) e = let z : ◌≡◌ {A = ℕ} 0 1 = cc in absurd (omega arith)
+-- the sum that is asked of an i64, and what is known of it
+pub summed : {count offset by : ℤ} (r : Option ℤ) → SFits w64 count → SFits w32 offset → by ≡ to_z w32 (of_z w32 offset) →
+    (let sum = to_z w64 (of_z w64 count) +ℤ to_z w64 (of_z w64 by) in SomeIff r (SFits w64 sum) sum) → SomeIff r (SFits w64 (count +ℤ offset)) (count +ℤ offset)
+summed {count = count} {offset = offset} r f g e s = rw (to_z-of_z w64 count f, e, widened offset g) at s
 
-pub local_out : {count offset : ℤ} {r : Local} → LocalFor count offset r → r ≡ of-local.Out → InI64 (count +ℤ offset) → ⊥
-local_out (at f) e = let z : ◌≡◌ {A = ℕ} 0 1 = cc in absurd (omega arith)
-local_out (out f) e = f
+pub local_at : {local sum : ℤ} {r : Option ℤ} → SomeIff r (SFits w64 sum) sum → r ≡ Some local → (local ≡ sum) × InI64 sum
+local_at {r = Some x} s e = (cc, s.0.sfits)
+local_at {r = None} s e = let z : ◌≡◌ {A = ℕ} 0 1 = cc in absurd (omega arith)
+
+pub local_out : (sum : ℤ) {r : Option ℤ} → SomeIff r (SFits w64 sum) sum → r ≡ None → InI64 sum → ⊥
+local_out sum {r = Some x} s e = let z : ◌≡◌ {A = ℕ} 0 1 = cc in absurd (omega arith)
+local_out sum {r = None} s e = λ f. s (record { sfits = f })
 
 -- the day and the second of a local time
 pub record Split (count offset day : ℤ) (s : ℕ) : Type 0 where
@@ -46,16 +51,10 @@ module _ {count offset day : ℤ} {s : ℕ} (p : Split count offset day s) where
   pub second_to : s < 86400
   second_to = rw p.second (mod_below (count +ℤ offset) 86400 (lit< tt))
 
--- the tests of the year
-pub year_out : (y : ℤ) → (lt_z y (negsuc 2147483647) ≡ true) ⊎ (lt_z (pos 2147483647) y ≡ true) → InI32 y → ⊥
-year_out (pos a) (inl t) h = let z : ◌≡◌ {A = ℕ} 0 1 = cc in omega arith
-year_out (pos a) (inr t) h = omega (arith, ltb-true 2147483647 a t)
-year_out (negsuc a) (inl t) h = omega (arith, ltb-true 2147483647 a t)
-year_out (negsuc a) (inr t) h = let z : ◌≡◌ {A = ℕ} 0 1 = cc in omega arith
-
-pub year_in : (y : ℤ) → lt_z y (negsuc 2147483647) ≡ false → lt_z (pos 2147483647) y ≡ false → InI32 y
-year_in (pos a) s t = omega (arith, ltb-false 2147483647 a t)
-year_in (negsuc a) s t = omega (arith, ltb-false 2147483647 a s)
+-- the year as an i32
+pub year_in : {y year : ℤ} {E : Type 0} {r : Result ℤ E} → OkIff r (SFits w32 y) y → r ≡ Ok year → (year ≡ y) × InI32 y
+year_in {r = Ok x} s e = (cc, s.0.sfits)
+year_in {r = Err x} s e = let z : ◌≡◌ {A = ℕ} 0 1 = cc in absurd (omega arith)
 
 clock : (s : ℕ) → s < 86400 → s / 3600 * 3600 + s / 60 % 60 * 60 + s % 60 ≡ s
 clock s h = omega arith
@@ -64,11 +63,11 @@ module _ {count offset day : ℤ} {nanos s : ℕ} (utc : Bool) (d : Date) (h : n
   date : DateOf (floor_div (count +ℤ offset) 86400) d.year d.month d.day
   date = rw p.days at w.date
 
-  pub out_of_range : (InI32 d.year → ⊥) → DatedBy count offset nanos utc (dated_reply (of-dated.Refused OutOfRange))
+  pub out_of_range : (InI32 d.year → ⊥) → DatedBy count offset nanos utc (dated_reply (Err OutOfRange))
   unfolding dated_reply number_of
   out_of_range f = year_leaves h date f
 
-  pub is_made : InI32 d.year → DatedBy count offset nanos utc (dated_reply (of-dated.Made (record {
+  pub is_made : InI32 d.year → DatedBy count offset nanos utc (dated_reply (Ok (record {
     year = d.year;
     month = d.month;
     day = d.day;

@@ -1,5 +1,5 @@
 pub mod CountLaws
 pub mod DateLaws
 pub mod DatedLaws
-pub mod LocalLaws
 pub mod MonthLaws
+pub mod Refused

@@ -11,20 +11,14 @@ ghost use Rattle.rules.specs.Counter.{dated_reply, counted_reply, DatedBy, Count
 ghost use Rattle.rules.proofs.Shift.{Is};
 ghost use Rattle.rules.proofs.CalendarLaws.{starts};
 ghost use Rattle.rules.proofs.Dates.{InYear, InMonth};
-ghost use Rattle.calendar.specs.Inner.{LocalFor, DateFor, DayFor};
+ghost use Rattle.calendar.specs.Inner.{DateFor, DayFor};
 
-use rules::{Counted, Dated, Record, Refusal};
+use rules::{Record, Refusal};
 
 // The days from there to 1970-01-01, and the years to year 0.
 const EPOCH: u64 = 106753078619162;
 
 const YEARS: u64 = 292279999999;
-
-#[derive(Clone, Copy)]
-enum Local {
-    At(i64),
-    Out,
-}
 
 #[derive(Clone, Copy)]
 struct Moment {
@@ -39,12 +33,6 @@ struct Date {
     day: u8,
     day_of_week: u8,
     day_of_year: u16,
-}
-
-#[derive(Clone, Copy)]
-enum Day {
-    At(i64),
-    Missing,
 }
 
 // A number plus `by`, and back.
@@ -63,39 +51,17 @@ fn lowered(n: u64, by: u64) -> i64
     n as i64 - by as i64
 }
 
-fn local_time(count: i64, utc_offset: i32) -> Local
-    ensures { LocalFor count utc_offset result }
-{
-    let offset = utc_offset as i64;
-    if offset < 0 {
-        if count < -9223372036854775808 - offset {
-            return Local::Out;
-        }
-    } else {
-        if count > 9223372036854775807 - offset {
-            return Local::Out;
-        }
-    }
-    Local::At(count + offset)
-}
-
 // The day of a local time, and the second of that day.
 fn moment_of(local: i64) -> Moment
     ensures { (result.day ≡ floor_div local 86400) × (result.second ≡ floor_mod local 86400) }
 {
-    let days = local / 86400;
-    let rest = local % 86400;
-    if rest < 0 {
-        let day = days - 1;
-        let second = (rest + 86400) as u64;
-        Moment { day, second }
-    } else {
-        let second = rest as u64;
-        Moment { day: days, second }
-    }
+    let day = local.div_euclid(86400);
+    let second = local.rem_euclid(86400) as u64;
+    Moment { day, second }
 }
 
 // The days of z years.
+#[tactic(auto, unfolding(rules::proofs::CalendarLaws::starts))]
 fn days_of(z: u64) -> u64
     requires { z < 1099511627776 }
     ensures { result ≡ starts z }
@@ -130,6 +96,7 @@ fn month_at(x: u64, leap: u64) -> u64
 }
 
 // The days before month m. Month 13 begins the next year.
+#[tactic(auto, using(crate::proofs::MonthLaws::before_march, crate::proofs::MonthLaws::from_march))]
 fn month_start(m: u64, leap: u64) -> u64
     requires { (1 ≤ m) × (m ≤ 13) × (leap ≤ 1) }
     ensures { (result ≡ days_before leap m) × (result ≤ 366) }
@@ -165,11 +132,11 @@ fn date_at(day: i64) -> Date
 }
 
 // The number of a date, from 1970-01-01.
-fn day_at(year: i32, month: u8, day: u8) -> Day
+fn day_at(year: i32, month: u8, day: u8) -> Option<i64>
     ensures { DayFor year month day result }
 {
     if month < 1 || month > 12 || day < 1 {
-        return Day::Missing;
+        return None;
     }
     let z = raised(year as i64, YEARS);
     let start = days_of(z);
@@ -178,32 +145,35 @@ fn day_at(year: i32, month: u8, day: u8) -> Day
     let before = month_start(m, leap);
     let d = day as u64;
     if before + d > month_start(m + 1, leap) {
-        return Day::Missing;
+        return None;
     }
-    Day::At(lowered(start + before + d - 1, EPOCH))
+    Some(lowered(start + before + d - 1, EPOCH))
 }
 
-pub fn record_from_count(count: i64, utc_offset: i32, nanoseconds: u32, is_utc: bool) -> Dated
+pub fn record_from_count(
+    count: i64,
+    utc_offset: i32,
+    nanoseconds: u32,
+    is_utc: bool,
+) -> Result<Record, Refusal>
     ensures { DatedBy count utc_offset nanoseconds is_utc (dated_reply result) }
 {
     if nanoseconds > 999_999_999 {
-        return Dated::Refused(Refusal::InvalidTime);
+        return Err(Refusal::InvalidTime);
     }
-    let Local::At(local) = local_time(count, utc_offset) else {
-        return Dated::Refused(Refusal::OutOfRange);
-    };
+    let local = count
+        .checked_add(i64::from(utc_offset))
+        .ok_or(Refusal::OutOfRange)?;
     let moment = moment_of(local);
     let date = date_at(moment.day);
-    let y = date.year;
-    if y < -2147483648 || y > 2147483647 {
-        return Dated::Refused(Refusal::OutOfRange);
-    }
-    let year = y as i32;
+    let Ok(year) = i32::try_from(date.year) else {
+        return Err(Refusal::OutOfRange);
+    };
     let s = moment.second;
     let hour = (s / 3600) as u8;
     let minute = (s / 60 % 60) as u8;
     let second = (s % 60) as u8;
-    Dated::Made(Record {
+    Ok(Record {
         year,
         month: date.month,
         day: date.day,
@@ -220,20 +190,18 @@ pub fn record_from_count(count: i64, utc_offset: i32, nanoseconds: u32, is_utc: 
 }
 
 // The date, the time and the offset are read.
-pub fn count_from_record(record: Record) -> Counted
+pub fn count_from_record(record: Record) -> Result<i64, Refusal>
     ensures { CountedBy «record» (counted_reply result) }
 {
     let hour = record.hour as u64;
     let minute = record.minute as u64;
     let second = record.second as u64;
     if hour > 23 || minute > 59 || second > 59 {
-        return Counted::Refused(Refusal::InvalidTime);
+        return Err(Refusal::InvalidTime);
     }
-    let Day::At(day) = day_at(record.year, record.month, record.day) else {
-        return Counted::Refused(Refusal::InvalidTime);
-    };
+    let day = day_at(record.year, record.month, record.day).ok_or(Refusal::InvalidTime)?;
     let s = hour * 3600 + minute * 60 + second;
     let local = day * 86400 + s as i64;
     let offset = record.utc_offset as i64;
-    Counted::Count(local - offset)
+    Ok(local - offset)
 }

@@ -1,4 +1,5 @@
 -- Bytes of the stored form by their positions, and a directive of 8 bytes by what the code tests and reads.
+use Rattle.std.specs.Prelude.{Option}
 use mathlib.Core.Path.{◌≡◌, sym, ap, ◌∙◌}
 use mathlib.Core.Bool.{Bool, true, false, ◌&&◌}
 use mathlib.Core.List.{List}
@@ -10,7 +11,6 @@ use lib.Seq.{get_or-drop, drop-drop}
 use borrow.Author.Tests.{lt-leb, le-leb}
 use Rattle.rules.specs.declared.Flags.{Flags}
 use Rattle.rules.specs.declared.Padding.{Padding}
-use Rattle.rules.specs.declared.Width.{Width}
 use Rattle.rules.specs.declared.Spec.{Spec}
 use Rattle.rules.specs.declared.Piece.{Piece}
 use Rattle.rules.specs.Stored.{four_of, coded_spec, spec_from, padding_from, flags_from, width_from, entry_of, is_known, width_taken, entry_taken}
@@ -75,7 +75,7 @@ module _ (s : List ℕ) (at : ℕ) where
 
   -- ## The directive that they are
 
-  pub piece_of : {w : Width} {p : Padding} {f : Flags} {c : Spec} {v : ℕ} → v ≡ four_of (drop (at + 4) s) → w ≡ width_from (get_or s (at + 3) 0) v → p ≡ padding_from (get_or s (at + 1) 0) → f ≡ flags_from (get_or s (at + 2) 0) → c ≡ spec_from (coded_spec (get_or s at 0)) →
+  pub piece_of : {w : Option ℕ} {p : Padding} {f : Flags} {c : Spec} {v : ℕ} → v ≡ four_of (drop (at + 4) s) → w ≡ width_from (get_or s (at + 3) 0) v → p ≡ padding_from (get_or s (at + 1) 0) → f ≡ flags_from (get_or s (at + 2) 0) → c ≡ spec_from (coded_spec (get_or s at 0)) →
       record { width = w; padding = p; flags = f; spec = c; skipped = false } ≡ entry_of (drop at s)
   unfolding entry_of
   piece_of {w} {p} {f} {c} {v} q a b d e =
@@ -84,6 +84,6 @@ module _ (s : List ℕ) (at : ℕ) where
       go' : {x x' y y' : ℕ} → x ≡ x' → y ≡ y' → width_from x y ≡ width_from x' y'
       go' m n = rw (m, n)
 
-      go : {w' : Width} {p' : Padding} {f' : Flags} {c' : Spec} → w ≡ w' → p ≡ p' → f ≡ f' → c ≡ c' →
+      go : {w' : Option ℕ} {p' : Padding} {f' : Flags} {c' : Spec} → w ≡ w' → p ≡ p' → f ≡ f' → c ≡ c' →
           ◌≡◌ {A = Piece} (record { width = w; padding = p; flags = f; spec = c; skipped = false }) (record { width = w'; padding = p'; flags = f'; spec = c'; skipped = false })
       go m n o k = rw (m, n, o, k)

@@ -3,29 +3,23 @@ ghost use Rattle.std.specs.Prelude.{◌≡◌, ◌+◌, ◌≤◌, length, drop}
 ghost use Rattle.rules.specs.Stored.{two_of, four_of, spec_from, coded_spec, padding_from, flags_from, width_from, entry_of, is_known, width_taken, entry_taken};
 ghost use Rattle.codes.specs.Eight.{Eight};
 
-use rules::{Entry, Fixed, Flags, Offset, Padding, Piece, Spec, Width};
+use rules::{Fixed, Flags, Offset, Padding, Piece, Spec};
 use table::spec_of;
 
-fn wide(b: u8) -> usize
-    ensures same { result ≡ b }
-    ensures small { result ≤ 255 }
-{
-    b as usize
-}
-
+// By index, here and below: the None of `first_chunk` would have to be ruled out.
 pub fn two_at(s: &[u8], at: usize) -> usize
     requires { at + 2 ≤ length s.now }
     ensures same { result ≡ two_of (drop at s.now) }
     ensures small { result ≤ 65535 }
 {
-    wide(s[at]) + wide(s[at + 1]) * 256
+    usize::from(u16::from_le_bytes([s[at], s[at + 1]]))
 }
 
 fn four_at(s: &[u8], at: usize) -> usize
     requires { at + 4 ≤ length s.now }
     ensures { result ≡ four_of (drop at s.now) }
 {
-    wide(s[at]) + wide(s[at + 1]) * 256 + wide(s[at + 2]) * 65536 + wide(s[at + 3]) * 16777216
+    u32::from_le_bytes([s[at], s[at + 1], s[at + 2], s[at + 3]]) as usize
 }
 
 // All 8 bytes of a directive as one number.
@@ -33,25 +27,27 @@ pub fn eight_at(s: &[u8], at: usize) -> usize
     requires { at + 8 ≤ length s.now }
     ensures { Eight (drop at s.now) result }
 {
-    wide(s[at])
-        + wide(s[at + 1]) * 256
-        + wide(s[at + 2]) * 65536
-        + wide(s[at + 3]) * 16777216
-        + wide(s[at + 4]) * 4294967296
-        + wide(s[at + 5]) * 1099511627776
-        + wide(s[at + 6]) * 281474976710656
-        + wide(s[at + 7]) * 72057594037927936
+    usize::from_le_bytes([
+        s[at],
+        s[at + 1],
+        s[at + 2],
+        s[at + 3],
+        s[at + 4],
+        s[at + 5],
+        s[at + 6],
+        s[at + 7],
+    ])
 }
 
 // The letter's directive, or the offset form with so many colons.
 #[tactic(auto, unfolding(rules::specs::Stored::coded_spec))]
-fn coded_spec(code: u8) -> Entry
+fn coded_spec(code: u8) -> Option<Spec>
     ensures { result ≡ coded_spec code }
 {
     match code {
-        1 => Entry::Is(Spec::Offset(Offset::TimeZoneOffsetHourMinuteColon)),
-        2 => Entry::Is(Spec::Offset(Offset::TimeZoneOffsetHourMinuteSecondColon)),
-        3 => Entry::Is(Spec::Offset(Offset::TimeZoneOffsetColonMinimal)),
+        1 => Some(Spec::Offset(Offset::TimeZoneOffsetHourMinuteColon)),
+        2 => Some(Spec::Offset(Offset::TimeZoneOffsetHourMinuteSecondColon)),
+        3 => Some(Spec::Offset(Offset::TimeZoneOffsetColonMinimal)),
         _ => spec_of(code),
     }
 }
@@ -59,13 +55,11 @@ fn coded_spec(code: u8) -> Entry
 fn spec_from(code: u8) -> Spec
     ensures { result ≡ spec_from (coded_spec code) }
 {
-    let Entry::Is(spec) = coded_spec(code) else {
-        return Spec::Fixed(Fixed::Percent);
-    };
-    spec
+    coded_spec(code).unwrap_or(Spec::Fixed(Fixed::Percent))
 }
 
-// Of the codes from 64 on: the letters of the table. All arms are alike, so a compiler makes one test of bits.
+// Of the codes from 64 on: the letters of the table. An arm for each, all alike, is one test of bits; an or-pattern is a test for each range of letters,
+// which makes a stored run 3 to 5 percent slower.
 #[tactic(auto, unfolding(rules::specs::Stored::coded_spec, rules::specs::Reading::look_up, rules::specs::Reading::possible_specs))]
 fn is_letter(code: u8) -> bool
     requires { 64 ≤ code }
@@ -126,25 +120,17 @@ fn is_known(code: u8) -> bool
     if 64 <= code {
         return is_letter(code);
     }
-    match code {
-        1 => true,
-        2 => true,
-        3 => true,
-        b'%' => true,
-        _ => false,
-    }
+    matches!(code, 1..=3 | b'%')
 }
 
 fn padding_from(code: u8) -> Padding
     ensures { result ≡ padding_from code }
 {
-    if code == 0 {
-        return Padding::Left;
+    match code {
+        0 => Padding::Left,
+        1 => Padding::Spaces,
+        _ => Padding::Zeros,
     }
-    if code == 1 {
-        return Padding::Spaces;
-    }
-    Padding::Zeros
 }
 
 fn flags_from(code: u8) -> Flags
@@ -157,27 +143,20 @@ fn flags_from(code: u8) -> Flags
     }
 }
 
-fn width_from(there: u8, value: usize) -> Width
+fn width_from(there: u8, value: usize) -> Option<usize>
     ensures { result ≡ width_from there value }
 {
-    if there == 0 {
-        return Width::Unset;
-    }
-    Width::Of(value)
+    (there != 0).then_some(value)
 }
 
 fn width_taken(there: u8, value: usize) -> bool
     ensures { result ≡ width_taken there value }
 {
-    if there == 0 {
-        return value == 0;
+    match there {
+        0 => value == 0,
+        1 => matches!(value, 1..=2147483647),
+        _ => false,
     }
-    if there == 1 {
-        if 1 <= value {
-            return value <= 2147483647;
-        }
-    }
-    false
 }
 
 // Whether the 8 bytes at `at` are a directive that some parse gives. Most have a code and nothing else.
@@ -191,10 +170,7 @@ pub fn entry_taken(s: &[u8], at: usize) -> bool
     if eight_at(s, at) < 256 {
         return true;
     }
-    if 2 < s[at + 1] {
-        return false;
-    }
-    if 7 < s[at + 2] {
+    if 2 < s[at + 1] || 7 < s[at + 2] {
         return false;
     }
     width_taken(s[at + 3], four_at(s, at + 4))

@@ -1,4 +1,5 @@
 // Ports the arms of `Piece::fmt` of mod.rs that write combinations: padding first, then the check, then one text.
+// Each has its check at its head: with the writer as a closure the proof can't cite what the closure wrote unless it states it, and that is longer.
 #![tactic(auto)]
 
 ghost use Rattle.std.specs.Prelude.{◌≡◌, Bool, List, [], ◌∷◌, ℕ, ◌<◌, length};
@@ -12,11 +13,11 @@ ghost use Rattle.text.specs.Ran.{Ran};
 ghost use Rattle.text.specs.Room.{Room};
 ghost use Rattle.combination_directive.specs.Combined.{Combined, clock_text};
 
-use names::calendar::{day_three, month_three};
-use numbers::{spaced_digits, two_digits};
+use names::calendar::{Days, Months, Names};
+use numbers::{Year, spaced_digits, two_digits};
 use printing::{put_decimal, put_year, write_padding, year_length, year_width};
 use rules::{Combination, Flag, Piece, Record};
-use text::{judged, put};
+use text::{put, refused_at};
 
 // HH:MM:SS.
 fn clock_text(hour: u8, minute: u8, second: u8) -> [u8; 8]
@@ -33,22 +34,22 @@ pub fn date_time(out: &mut [u8], at: usize, room: usize, record: Record, upper: 
     requires { Room out.old room }
     ensures { Combined room kind.CombinationDateTime upper «record» out.old at out.new result }
 {
-    let verdict = fields::verdict(fields::date_time(record));
-    if verdict != 0 {
-        return judged(at, verdict);
+    if let Err(refusal) = fields::verdict(fields::date_time(record)) {
+        return refused_at(at, refusal);
     }
-    let week_day_name = day_three(record.day_of_week, upper);
-    let month_name = month_three(record.month, upper);
+    let week_day_name = Days::three(record.day_of_week, upper);
+    let month_name = Months::three(record.month, upper);
     let day = spaced_digits(record.day);
     let clock = clock_text(record.hour, record.minute, record.second);
+    // Byte by byte: with the parts copied into it as slices `%c` takes 1.09 of the instructions.
     let text = [
-        week_day_name.0,
-        week_day_name.1,
-        week_day_name.2,
+        week_day_name[0],
+        week_day_name[1],
+        week_day_name[2],
         b' ',
-        month_name.0,
-        month_name.1,
-        month_name.2,
+        month_name[0],
+        month_name[1],
+        month_name[2],
         b' ',
         day.0,
         day.1,
@@ -71,13 +72,12 @@ pub fn date(out: &mut [u8], at: usize, room: usize, record: Record) -> usize
     requires { Room out.old room }
     ensures { (upper : Bool) → Combined room kind.CombinationDate upper «record» out.old at out.new result }
 {
-    let verdict = fields::verdict(fields::date(record));
-    if verdict != 0 {
-        return judged(at, verdict);
+    if let Err(refusal) = fields::verdict(fields::date(record)) {
+        return refused_at(at, refusal);
     }
     let month = two_digits(record.month);
     let day = two_digits(record.day);
-    let year = two_digits(numbers::rem_euclid_100(record.year));
+    let year = two_digits(record.year.rem_euclid_100());
     let text = [month.0, month.1, b'/', day.0, day.1, b'/', year.0, year.1];
     put(out, at, room, &text)
 }
@@ -86,9 +86,8 @@ pub fn iso8601(out: &mut [u8], at: usize, room: usize, record: Record) -> usize
     requires { Room out.old room }
     ensures { (upper : Bool) → Combined room kind.CombinationIso8601 upper «record» out.old at out.new result }
 {
-    let verdict = fields::verdict(fields::date(record));
-    if verdict != 0 {
-        return judged(at, verdict);
+    if let Err(refusal) = fields::verdict(fields::date(record)) {
+        return refused_at(at, refusal);
     }
     let month = two_digits(record.month);
     let day = two_digits(record.day);
@@ -102,19 +101,18 @@ pub fn vms_date(out: &mut [u8], at: usize, room: usize, record: Record) -> usize
     requires { Room out.old room }
     ensures { (upper : Bool) → Combined room kind.CombinationVmsDate upper «record» out.old at out.new result }
 {
-    let verdict = fields::verdict(fields::date(record));
-    if verdict != 0 {
-        return judged(at, verdict);
+    if let Err(refusal) = fields::verdict(fields::date(record)) {
+        return refused_at(at, refusal);
     }
     let day = spaced_digits(record.day);
-    let month_name = month_three(record.month, true);
+    let month_name = Months::three(record.month, true);
     let text = [
         day.0,
         day.1,
         b'-',
-        month_name.0,
-        month_name.1,
-        month_name.2,
+        month_name[0],
+        month_name[1],
+        month_name[2],
         b'-',
     ];
     let next = put(out, at, room, &text);
@@ -132,12 +130,12 @@ pub fn time12h(out: &mut [u8], at: usize, room: usize, record: Record) -> usize
     requires { Room out.old room }
     ensures { (upper : Bool) → Combined room kind.CombinationTime12h upper «record» out.old at out.new result }
 {
-    let verdict = fields::verdict(fields::clock(record));
-    if verdict != 0 {
-        return judged(at, verdict);
+    if let Err(refusal) = fields::verdict(fields::clock(record)) {
+        return refused_at(at, refusal);
     }
     let hour = values::hour12(record.hour);
     let clock = clock_text(hour, record.minute, record.second);
+    // Byte by byte: with the clock copied into it as a slice `%r` takes 1.13 of the instructions.
     let text = [
         clock[0],
         clock[1],
@@ -164,9 +162,8 @@ pub fn hour_minute24h(out: &mut [u8], at: usize, room: usize, record: Record) ->
     requires { Room out.old room }
     ensures { (upper : Bool) → Combined room kind.CombinationHourMinute24h upper «record» out.old at out.new result }
 {
-    let verdict = fields::verdict(hour_and_minute(record));
-    if verdict != 0 {
-        return judged(at, verdict);
+    if let Err(refusal) = fields::verdict(hour_and_minute(record)) {
+        return refused_at(at, refusal);
     }
     let hour = two_digits(record.hour);
     let minute = two_digits(record.minute);
@@ -178,9 +175,8 @@ pub fn time24h(out: &mut [u8], at: usize, room: usize, record: Record) -> usize
     requires { Room out.old room }
     ensures { (upper : Bool) → Combined room kind.CombinationTime24h upper «record» out.old at out.new result }
 {
-    let verdict = fields::verdict(fields::clock(record));
-    if verdict != 0 {
-        return judged(at, verdict);
+    if let Err(refusal) = fields::verdict(fields::clock(record)) {
+        return refused_at(at, refusal);
     }
     let text = clock_text(record.hour, record.minute, record.second);
     put(out, at, room, &text)

@@ -1,4 +1,5 @@
 -- What compiling answers: a refusal, or the stored form, of which all three sections were written behind their counts.
+use Rattle.std.specs.Prelude.{Ok, Err}
 use mathlib.Core.Path.{◌≡◌, sym, ap, ◌∙◌}
 use mathlib.Core.List.{List, ◌∷◌, ◌++◌, append_assoc}
 use Prim.Native.Nat.{ℕ, ◌+◌, ◌/◌, ◌≤◌, ◌<◌}
@@ -6,15 +7,13 @@ use native.Mathlib.Omega.{arith}
 use lib.ListN.{length}
 use Rattle.rules.specs.declared.Refusal.{Refusal}
 use Rattle.rules.specs.declared.Refusal.TheVariants.{WriteZero}
-use Rattle.rules.specs.declared.Answer.TheVariants.{Done, Refused}
 use Rattle.rules.specs.Record.{longest_format, longest_buffer}
-use Rattle.rules.specs.Refusal.{number_of, refusal_at, numbered}
+use Rattle.rules.specs.Refusal.{number_of, numbered}
 use Rattle.rules.specs.Event.{put, Event, write, bytes_of, text_of, length_of, tally, done, refused, run, reported, Holds}
 use Rattle.rules.specs.Format.{items, fault}
 use Rattle.rules.specs.Stored.{Part, two_bytes, parts, literals_in, pieces_in, stored, compiled}
 use Rattle.rules.proofs.EventLaws.{length_text, text_join, holds_join, tally_fits}
-use Rattle.rules.proofs.Faults.{fault_by_event}
-use Rattle.rules.proofs.OneAnswer.{event_number, number_known}
+use Rattle.rules.proofs.OneAnswer.{number_some}
 use Rattle.rules.proofs.Promised.{Promised, left_alone}
 use Rattle.rules.proofs.StoredCompiled.{compile_fault, compile_short, compile_done}
 use Rattle.rules.proofs.StoredLoading.{stored_length}
@@ -22,9 +21,7 @@ use Rattle.text.specs.Ran.{Ran}
 use Rattle.text.proofs.PlaceLaws.{count_at_lem, same_place}
 use Rattle.text.proofs.RanLaws.{◌then◌}
 use Rattle.text.proofs.EntryLaws.{from_start, ran_done, written}
-use Rattle.compiled.specs.declared.Section.{Section}
-use Rattle.compiled.specs.declared.Section.TheVariants.{Literals, Directives, Steps}
-use Rattle.compiled.specs.Sections.{section_events}
+use Rattle.compiled.specs.Sections.{Which, Literals, Directives, Steps, section_events}
 use Rattle.compiled.proofs.SectionLaws.{section_bytes, section_said, section_small, section_holds, literals_length, directives_length, orders_length}
 
 -- ## A run from the start that fits
@@ -34,7 +31,7 @@ place_of {limit} {room} {es} w h r m b =
     let z : 0 + length_of es ≡ length_of es = omega arith in
     same_place (w.count ∙ ap (tally limit room es) (count_at_lem 0 (omega arith)) ∙ tally_fits limit room es 0 h (omega arith) (omega arith) ∙ rw z (sym (count_at_lem (length_of es) (omega arith))))
 
-pub section_placed : (format : List ℕ) (section : Section) {l l' : List ℕ} {n : ℕ} → length format ≤ longest_format → ((limit : ℕ) → Ran limit longest_buffer (section_events section 0 (parts (items format))) l 0 l' n) → n ≡ length_of (section_events section 0 (parts (items format)))
+pub section_placed : (format : List ℕ) (section : Which) {l l' : List ℕ} {n : ℕ} → length format ≤ longest_format → ((limit : ℕ) → Ran limit longest_buffer (section_events section 0 (parts (items format))) l 0 l' n) → n ≡ length_of (section_events section 0 (parts (items format)))
 section_placed format section h w =
     let ps = parts (items format) in
     let small = section_small format h section in
@@ -46,17 +43,17 @@ total_small format h el ed en = omega (arith, section_small format h Literals, s
 -- ## The whole
 
 -- a count and its section
-abbrev pub counted : ℕ → Section → List Part → List Event
+abbrev pub counted : ℕ → Which → List Part → List Event
 counted n section ps = write (put (two_bytes n)) ∷ section_events section 0 ps
 
 abbrev whole_events : List Part → ℕ → ℕ → ℕ → List Event
 whole_events ps a b c = counted a Literals ps ++ (counted b Directives ps ++ counted c Steps ps)
 
-counted_said : (n : ℕ) (section : Section) (ps : List Part) → text_of (counted n section ps) ≡ two_bytes n ++ section_bytes section ps
+counted_said : (n : ℕ) (section : Which) (ps : List Part) → text_of (counted n section ps) ≡ two_bytes n ++ section_bytes section ps
 unfolding text_of bytes_of
 counted_said n section ps = ap (λ (x : List ℕ). two_bytes n ++ x) (section_said section ps)
 
-counted_holds : (n : ℕ) (section : Section) (ps : List Part) → Holds (counted n section ps)
+counted_holds : (n : ℕ) (section : Which) (ps : List Part) → Holds (counted n section ps)
 unfolding Holds
 counted_holds n section ps = section_holds section 0 ps
 
@@ -73,22 +70,20 @@ module _ (format : List ℕ) (room : ℕ) (f : length format ≤ longest_format)
   abbrev ps : List Part
   ps = parts (items format)
 
-  pub fault_refused : (number ≡ 0 → ⊥) → (before : List ℕ) (r : Refusal) → r ≡ refusal_at number → Promised (compiled format room) before (Refused r) before
-  fault_refused h before r e =
-      let other : fault (items format) ≡ 0 → ⊥ = λ z. h (is ∙ z) in
-      let named : number_of r ≡ fault (items format) = ap number_of e ∙ ap (λ (n : ℕ). number_of (refusal_at n)) is ∙ (number_known (event_number (fault_by_event (items format) other))).1 in
-      left_alone before r (compile_fault format room f b other ∙ ap refused (sym named))
+  pub fault_refused : (before : List ℕ) (r : Refusal) → number_of r ≡ number → Promised (compiled format room) before (Err r) before
+  fault_refused before r named =
+      left_alone before r (compile_fault format room f b (λ zero. number_some r (named ∙ is ∙ zero)) ∙ ap refused (sym (named ∙ is)))
 
   module _ (h : number ≡ 0) {l d n : ℕ} (el : l ≡ length_of (section_events Literals 0 ps)) (ed : d ≡ length_of (section_events Directives 0 ps)) (en : n ≡ length_of (section_events Steps 0 ps)) where
     long : length (stored ps) ≡ 6 + l + d + n
     long = omega (arith, stored_length ps, literals_length ps, directives_length ps, orders_length ps)
 
-    pub no_room : (before : List ℕ) → room < 6 + l + d + n → Promised (compiled format room) before (Refused WriteZero) before
+    pub no_room : (before : List ℕ) → room < 6 + l + d + n → Promised (compiled format room) before (Err WriteZero) before
     unfolding number_of
     no_room before k = left_alone before WriteZero (compile_short format room f b (sym is ∙ h) (omega (arith, long)))
 
     -- the buffer b₀ has room for all
-    pub stored_there : {b₀ b₁ b₂ b₃ : List ℕ} {n₁ n₂ n₃ : ℕ} → length b₀ ≡ room → 6 + l + d + n ≤ room → ((limit : ℕ) → Ran limit room (counted l Literals ps) b₀ 0 b₁ n₁) → ((limit : ℕ) → Ran limit room (counted (d / 8) Directives ps) b₁ n₁ b₂ n₂) → ((limit : ℕ) → Ran limit room (counted (n / 3) Steps ps) b₂ n₂ b₃ n₃) → Promised (compiled format room) b₀ (Done n₃) b₃
+    pub stored_there : {b₀ b₁ b₂ b₃ : List ℕ} {n₁ n₂ n₃ : ℕ} → length b₀ ≡ room → 6 + l + d + n ≤ room → ((limit : ℕ) → Ran limit room (counted l Literals ps) b₀ 0 b₁ n₁) → ((limit : ℕ) → Ran limit room (counted (d / 8) Directives ps) b₁ n₁ b₂ n₂) → ((limit : ℕ) → Ran limit room (counted (n / 3) Steps ps) b₂ n₂ b₃ n₃) → Promised (compiled format room) b₀ (Ok n₃) b₃
     unfolding numbered reported
     stored_there {b₀} {b₃ = b₃} {n₃ = n₃} g k u v w =
         let es = whole_events ps l (d / 8) (n / 3) in

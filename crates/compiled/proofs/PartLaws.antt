@@ -9,9 +9,7 @@ use Rattle.rules.specs.declared.Piece.{Piece}
 use Rattle.rules.specs.Format.{Item, literal, echo, directive, cut, between, read}
 use Rattle.rules.specs.Stored.{Part as Stored, text, piece, join_text, parts}
 use Rattle.reading.proofs.Positions.{Part, Last, items_at}
-use Rattle.compiled.specs.declared.Next.{Next}
-use Rattle.compiled.specs.declared.Next.TheVariants.{Text, Directive, End}
-use Rattle.compiled.specs.Parts.{parts_at, bytes_to, add_text, Apart, TextTo, TextEnds, TextNext, PieceNext, NextPart}
+use Rattle.compiled.specs.Parts.{parts_at, bytes_to, add_text, Apart, TextTo, TextEnds, TextNext, PieceNext}
 
 -- ## Texts joined
 
@@ -53,9 +51,6 @@ module _ (format : List ℕ) where
       sym (ap (λ (n : ℕ). take n (drop i format)) (sym b) ∙ take-add (e - i) (e' - e) (drop i format) ∙ ap (λ (l : List ℕ). take (e - i) (drop i format) ++ take (e' - e) l) d)
 
   module _ (i : ℕ) where
-    pub text_start : TextTo format i i
-    text_start = let z : i - i ≡ 0 = omega arith in record { parted = rw z; onward = omega arith; within = λ h. h }
-
     on_text : {e e' : ℕ} → TextTo format i e → parts_at format e ≡ join_text (bytes_to format e e') (parts_at format e') → e < e' → e' ≤ length format → TextTo format i e'
     on_text {e} {e'} t q h k =
         record {
@@ -126,13 +121,3 @@ module _ (format : List ℕ) where
       no_echo {next} p =
           let a : Apart (parts_at format i) = subst (λ (k : ℕ). Apart (parts_at format k)) same t.apart in
           absurd (joined_apart (bytes_to format i next) (parts_at format next) (rw (ap parts p.items) at a))
-
-  module _ (i : ℕ) {x : Next} (n : NextPart format i x) where
-    pub as_text : {e : ℕ} → x ≡ Text e → TextNext format i e
-    as_text q = subst (NextPart format i) q n
-
-    pub as_piece : {p : Piece} {next : ℕ} → x ≡ Directive p next → PieceNext format i p next
-    as_piece q = subst (NextPart format i) q n
-
-    pub as_end : x ≡ End → parts_at format i ≡ []
-    as_end q = subst (NextPart format i) q n

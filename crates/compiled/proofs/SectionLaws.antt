@@ -1,13 +1,14 @@
 -- The sections: what is left of each as the format is walked, and its text.
 use mathlib.Core.Path.{◌≡◌, refl, sym, ap, ◌∙◌}
 use mathlib.Core.List.{List, [], ◌∷◌, ◌++◌, append_assoc, append-nil}
-use Prim.Native.Nat.{ℕ, suc, ◌+◌, ◌-◌, ◌*◌, ◌/◌, ◌%◌, ◌≤◌}
+use Prim.Native.Nat.{ℕ, suc, ◌+◌, ◌*◌, ◌/◌, ◌%◌, ◌≤◌}
 use native.Mathlib.Numerals.{add-one}
 use native.Mathlib.Omega.{arith}
-use lib.ListN.{length}
+use lib.ListN.{length, get_or, take}
+use Rattle.std.specs.Int.{w64, to_le_bytes}
 use Rattle.rules.specs.declared.Piece.{Piece}
 use Rattle.rules.specs.Record.{longest_format}
-use Rattle.rules.specs.Event.{put, Event, write, bytes_of, text_of, length_of, Holds}
+use Rattle.rules.specs.Event.{Event, bytes_of, text_of, length_of, Holds}
 use Rattle.rules.specs.Format.{items}
 use Rattle.rules.specs.Stored.{Part, text, piece, unskipped, two_bytes, code_of, padding_code, flags_code, present, width_value, entry_bytes, parts, literals_in, pieces_in, entries_bytes, steps_bytes}
 use Rattle.rules.proofs.EventLaws.{length_text, holds_join}
@@ -15,13 +16,9 @@ use Rattle.rules.proofs.StoredEntries.{entries_length}
 use Rattle.rules.proofs.StoredLoading.{steps_length, stored_length}
 use Rattle.rules.proofs.StoredGiven.{stored_most}
 use Rattle.text.specs.Ran.{Ran}
-use Rattle.text.specs.Room.{Room}
-use Rattle.text.proofs.RanLaws.{◌then◌, nothing, same_events, kept}
-use Rattle.compiled.specs.declared.Section.{Section}
-use Rattle.compiled.specs.declared.Section.TheVariants.{Literals, Directives, Steps}
+use Rattle.text.proofs.RanLaws.{◌then◌, nothing, same_events}
 use Rattle.compiled.specs.Parts.{parts_at, bytes_to, TextNext, PieceNext}
-use Rattle.compiled.specs.Sections.{text_events, piece_events, section_events}
-use Rattle.compiled.proofs.PartLaws.{bytes_length}
+use Rattle.compiled.specs.Sections.{Which, Literals, Directives, Steps, text_events, piece_events, section_events}
 
 -- ## Their text
 
@@ -44,12 +41,12 @@ steps_said i (text t ∷ ps) = ap (λ (x : List ℕ). 0 ∷ (two_bytes (length t
 steps_said i (piece p ∷ ps) = ap (λ (x : List ℕ). 1 ∷ (two_bytes i ++ x)) (steps_said (suc i) ps)
 
 -- the bytes of a section
-unfoldable pub section_bytes : Section → List Part → List ℕ
+unfoldable pub section_bytes : Which → List Part → List ℕ
 section_bytes Literals ps = literals_in ps
 section_bytes Directives ps = entries_bytes (pieces_in ps)
 section_bytes Steps ps = steps_bytes 0 ps
 
-pub section_said : (section : Section) (ps : List Part) → text_of (section_events section 0 ps) ≡ section_bytes section ps
+pub section_said : (section : Which) (ps : List Part) → text_of (section_events section 0 ps) ≡ section_bytes section ps
 unfolding section_bytes
 section_said Literals ps = literals_said 0 ps
 section_said Directives ps = entries_said 0 ps
@@ -65,95 +62,70 @@ module _ (ps : List Part) where
   pub orders_length : length_of (section_events Steps 0 ps) ≡ length ps * 3
   orders_length = omega (arith, length_text (section_events Steps 0 ps), ap length (steps_said 0 ps), steps_length 0 ps)
 
-pub section_small : (format : List ℕ) → length format ≤ longest_format → (section : Section) → length_of (section_events section 0 (parts (items format))) ≤ 22534
+pub section_small : (format : List ℕ) → length format ≤ longest_format → (section : Which) → length_of (section_events section 0 (parts (items format))) ≤ 22534
 section_small format h section = go section
   where
     ps : List Part
     ps = parts (items format)
 
-    go : (section : Section) → length_of (section_events section 0 ps) ≤ 22534
+    go : (section : Which) → length_of (section_events section 0 ps) ≤ 22534
     go Literals = omega (arith, stored_most format h, stored_length ps, literals_length ps)
     go Directives = omega (arith, stored_most format h, stored_length ps, directives_length ps)
     go Steps = omega (arith, stored_most format h, stored_length ps, orders_length ps)
 
 -- none of their events is a check
-pub section_holds : (section : Section) (i : ℕ) (ps : List Part) → Holds (section_events section i ps)
+pub section_holds : (section : Which) (i : ℕ) (ps : List Part) → Holds (section_events section i ps)
 unfolding section_events Holds
 section_holds section i [] = tt
 section_holds section i (text t ∷ ps) = holds_join (text_events section t) (section_events section i ps) (go section) (section_holds section i ps)
   where
-    go : (section : Section) → Holds (text_events section t)
+    go : (section : Which) → Holds (text_events section t)
     go Literals = unfold text_events in tt
     go Directives = unfold text_events in tt
     go Steps = unfold text_events in tt
 section_holds section i (piece p ∷ ps) = holds_join (piece_events section i p) (section_events section (suc i) ps) (go section) (section_holds section (suc i) ps)
   where
-    go : (section : Section) → Holds (piece_events section i p)
+    go : (section : Which) → Holds (piece_events section i p)
     go Literals = unfold piece_events in tt
     go Directives = unfold piece_events in tt
     go Steps = unfold piece_events in tt
 
 -- ## The bytes of a count, a step and a directive
 
-pub count_bytes : (n : ℕ) {a b : ℕ} → a ≡ n % 256 → b ≡ n / 256 % 256 → a ∷ b ∷ [] ≡ two_bytes n
-count_bytes n p q = rw (p, q)
+pub low_two : (n : ℕ) {bytes : List ℕ} → bytes ≡ to_le_bytes w64 n → take 2 bytes ≡ two_bytes n
+low_two n e = rw e refl
 
-pub entry_bytes_lem : (p : Piece) {v c d f t a b g h : ℕ} → v ≡ width_value p.width → c ≡ code_of p.spec → d ≡ padding_code p.padding → f ≡ flags_code p.flags → t ≡ present p.width → a ≡ v % 256 → b ≡ v / 256 % 256 → g ≡ v / 256 / 256 % 256 → h ≡ v / 256 / 256 / 256 % 256 →
-    c ∷ d ∷ f ∷ t ∷ a ∷ b ∷ g ∷ h ∷ [] ≡ entry_bytes p
+pub step_bytes : (n : ℕ) {bytes : List ℕ} (section : ℕ) → bytes ≡ to_le_bytes w64 n → section ∷ get_or bytes 0 0 ∷ get_or bytes 1 0 ∷ [] ≡ section ∷ two_bytes n
+step_bytes n section e = rw e refl
+
+pub entry_bytes_lem : (p : Piece) {v c d f t : ℕ} {w : List ℕ} → v ≡ width_value p.width → w ≡ to_le_bytes w64 v → c ≡ code_of p.spec → d ≡ padding_code p.padding → f ≡ flags_code p.flags → t ≡ present p.width →
+    c ∷ d ∷ f ∷ t ∷ get_or w 0 0 ∷ get_or w 1 0 ∷ get_or w 2 0 ∷ get_or w 3 0 ∷ [] ≡ entry_bytes p
 unfolding entry_bytes
-entry_bytes_lem p ev ec ed ef et ea eb eg eh = rw (← ev, ec, ed, ef, et, ea, eb, eg, eh)
-
--- ## What a part adds
-
-module _ {room : ℕ} {out out' : List ℕ} {n n' : ℕ} {section : Section} where
-  pub text_literals : {t : List ℕ} → section ≡ Literals → ((limit : ℕ) → Ran limit room (write (put t) ∷ []) out n out' n') → (limit : ℕ) → Ran limit room (text_events section t) out n out' n'
-  unfolding text_events
-  text_literals e w limit = rw e (w limit)
-
-  pub text_steps : (format : List ℕ) (i e : ℕ) → section ≡ Steps → e ≤ length format → ((limit : ℕ) → Ran limit room (write (put (0 ∷ two_bytes (e - i))) ∷ []) out n out' n') → (limit : ℕ) → Ran limit room (text_events section (bytes_to format i e)) out n out' n'
-  unfolding text_events
-  text_steps format i e q h w limit = rw q (rw (bytes_length format i e h) (w limit))
-
-  pub piece_entries : (p : Piece) (index : ℕ) → section ≡ Directives → ((limit : ℕ) → Ran limit room (write (put (entry_bytes p)) ∷ []) out n out' n') → (limit : ℕ) → Ran limit room (piece_events section index p) out n out' n'
-  unfolding piece_events
-  piece_entries p index e w limit = rw e (w limit)
-
-  pub piece_steps : (p : Piece) (index : ℕ) → section ≡ Steps → ((limit : ℕ) → Ran limit room (write (put (1 ∷ two_bytes index)) ∷ []) out n out' n') → (limit : ℕ) → Ran limit room (piece_events section index p) out n out' n'
-  unfolding piece_events
-  piece_steps p index e w limit = rw e (w limit)
-
-module _ {room : ℕ} {out : List ℕ} {n : ℕ} {section : Section} where
-  pub text_none : (t : List ℕ) → section ≡ Directives → (limit : ℕ) → Ran limit room (text_events section t) out n out n
-  unfolding text_events
-  text_none t e limit = rw e nothing
-
-  pub piece_none : (p : Piece) (index : ℕ) → section ≡ Literals → (limit : ℕ) → Ran limit room (piece_events section index p) out n out n
-  unfolding piece_events
-  piece_none p index e limit = rw e nothing
+entry_bytes_lem p {v} ev ew ec ed ef et =
+    let third : v / 65536 % 256 ≡ v / 256 / 256 % 256 = omega arith in
+    let fourth : v / 16777216 % 256 ≡ v / 256 / 256 / 256 % 256 = omega arith in
+    rw (ew, ← ev, ec, ed, ef, et, third, fourth) refl
 
 -- ## The walk
 
 -- a skipped letter adds nothing
-unskipped_alike : (section : Section) (i : ℕ) (p : Piece) → piece_events section i (unskipped p) ≡ piece_events section i p
+unskipped_alike : (section : Which) (i : ℕ) (p : Piece) → piece_events section i (unskipped p) ≡ piece_events section i p
 unfolding piece_events entry_bytes
 unskipped_alike Literals i p = refl
 unskipped_alike Directives i p = refl
 unskipped_alike Steps i p = refl
 
 -- the parts before position i have been written, and the next directive has this index
-pub record Walked (room : ℕ) (section : Section) (format out₀ : List ℕ) (n₀ index i : ℕ) (out : List ℕ) (n : ℕ) : Type 0 where
+pub record Walked (room : ℕ) (section : Which) (format out₀ : List ℕ) (n₀ index i : ℕ) (out : List ℕ) (n : ℕ) : Type 0 where
   pub found : List Event
   pub rest : section_events section 0 (parts_at format 0) ≡ found ++ section_events section index (parts_at format i)
   pub ran : (limit : ℕ) → Ran limit room found out₀ n₀ out n
 
-module _ {room : ℕ} {section : Section} {format out₀ : List ℕ} {n₀ : ℕ} where
+module _ {room : ℕ} {section : Which} {format out₀ : List ℕ} {n₀ : ℕ} where
   pub walk_start : Walked room section format out₀ n₀ 0 0 out₀ n₀
   walk_start = record { found = []; rest = refl; ran = λ limit. nothing }
 
   module _ {index i : ℕ} {out : List ℕ} {n : ℕ} (w : Walked room section format out₀ n₀ index i out n) where
-    pub walk_room : Room out₀ room → Room out room
-    walk_room r = record { within = omega (arith, kept (w.ran 0), r.within); small = r.small }
-
     walk_on : (more : List Event) (index' i' : ℕ) {out' : List ℕ} {n' : ℕ} → section_events section index (parts_at format i) ≡ more ++ section_events section index' (parts_at format i') → ((limit : ℕ) → Ran limit room more out n out' n') → Walked room section format out₀ n₀ index' i' out' n'
     walk_on more index' i' e v =
         record {

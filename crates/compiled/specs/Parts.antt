@@ -1,10 +1,10 @@
 -- What stands at a position of a format, part by part.
-use Rattle.std.specs.Prelude.{◌≡◌, List, [], ◌∷◌, ℕ, ◌-◌, ◌≤◌, ◌<◌, length, take, drop, get_or}
+use Rattle.std.specs.Prelude.{◌≡◌, Option, Some, None, List, [], ◌∷◌, ℕ, ◌-◌, ◌≤◌, ◌<◌, length, take, drop, get_or}
 use Rattle.rules.specs.declared.Piece.{Piece}
 use Rattle.rules.specs.Format.{between, read}
 use Rattle.rules.specs.Stored.{Part, text, piece, unskipped, join_text, parts}
-use Rattle.compiled.specs.declared.Next.{Next}
-use Rattle.compiled.specs.declared.Next.TheVariants.{Text, Directive, End}
+use Rattle.compiled.specs.declared.parts.Next.{Next}
+use Rattle.compiled.specs.declared.parts.Next.TheVariants.{Text, Directive}
 
 -- the parts from position i on
 abbrev pub parts_at : List ℕ → ℕ → List Part
@@ -47,7 +47,7 @@ pub record PieceNext (format : List ℕ) (i : ℕ) (p : Piece) (next : ℕ) : Ty
   pub onward : i < next
   pub within : next ≤ length format
 
-abbrev pub NextPart : List ℕ → ℕ → Next → Type 0
-NextPart format i (Text e) = TextNext format i e
-NextPart format i (Directive p next) = PieceNext format i p next
-NextPart format i End = parts_at format i ≡ []
+abbrev pub NextPart : List ℕ → ℕ → Option Next → Type 0
+NextPart format i (Some (Text e)) = TextNext format i e
+NextPart format i (Some (Directive p next)) = PieceNext format i p next
+NextPart format i None = parts_at format i ≡ []

@@ -13,10 +13,7 @@ use rules::Parsed;
 fn tail<'a>(remaining: &'a [u8], n: usize) -> &'a [u8]
     ensures { result.now ≡ drop n remaining.now }
 {
-    if n < remaining.len() {
-        return &remaining[n..];
-    }
-    &remaining[..0]
+    remaining.get(n..).unwrap_or(&[])
 }
 
 // What stands behind a percent sign, by positions that count from there.

@@ -9,7 +9,6 @@ use combination_directive::combination;
 use name_directive::{fixed, name, zone_name};
 use number_directive::{fraction, fraction_digits, number};
 use offset_directive::offset;
-use printing::width_or;
 use rules::{Piece, Record, Spec};
 
 #[tactic(auto, unfolding(rules::specs::Writing::events_of))]
@@ -35,7 +34,7 @@ pub fn directive(
             at,
             room,
             limit,
-            width_or(width, fraction_digits(f)),
+            width.unwrap_or(fraction_digits(f)),
             record,
         ),
         Spec::Offset(o) => offset(out, at, room, limit, piece, o, record),

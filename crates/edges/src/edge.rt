@@ -1,7 +1,5 @@
 // One stamp beside what it should be.
-ghost use Rattle.std.specs.Prelude.{◌≤◌};
-
-use rules::Record;
+use rules::{Record, Refusal};
 
 // A long text is shortened.
 fn say_text(text: &[u8]) {
@@ -13,68 +11,54 @@ fn say_text(text: &[u8]) {
     say::text(say::front(text, 5));
     say::text(b"..");
     say::text(&text[count - 3..]);
-    say::text(b" (");
-    say::number(count as u64);
-    say::text(b" bytes)");
+    say::shown(format_args!(" ({count} bytes)"));
 }
 
-// A refusal's number, or the text where the number is 0.
-fn say_outcome(number: u64, text: &[u8]) {
-    if number == 0 {
-        say::text(b"`");
-        say_text(text);
-        say::text(b"`");
-        return;
+// The text, or a refusal's number.
+fn say_outcome(outcome: Result<&[u8], Refusal>) {
+    match outcome {
+        Ok(text) => {
+            say::text(b"`");
+            say_text(text);
+            say::text(b"`");
+        }
+        Err(refusal) => {
+            let number = u32::from(refusal);
+            say::shown(format_args!("refusal {number}"));
+        }
     }
-    say::text(b"refusal ");
-    say::number(number);
 }
 
-fn say_stamp(label: &[u8], format: &[u8], number: u64, text: &[u8]) {
+fn say_stamp(label: &[u8], format: &[u8], outcome: Result<&[u8], Refusal>) {
     say::text(label);
     say::text(b": `");
     say::text(format);
     say::text(b"` gives ");
-    say_outcome(number, text);
+    say_outcome(outcome);
 }
 
-// 1 where the stamp is as it should be, else 0. The zone name is empty.
+// Whether the stamp is as it should be. The zone name is empty.
 pub fn stamp_in(
     label: &[u8],
     format: &[u8],
     record: Record,
     buffer: &mut [u8],
-    number: u64,
-    due: &[u8],
-) -> u64
-    ensures { result ≤ 1 }
-{
+    due: Result<&[u8], Refusal>,
+) -> bool {
     let answer = strftime::format(format, b"", record, buffer);
-    let given = say::answer_number(answer);
-    let text = say::front(buffer, say::answer_bytes(answer));
-    say_stamp(label, format, given, text);
-    if given == number {
-        if check::same(text, due) {
-            say::text(b", as it should be\n");
-            return 1;
-        }
+    let given = answer.map(|count| say::front(buffer, count));
+    say_stamp(label, format, given);
+    if given == due {
+        say::text(b", as it should be\n");
+        return true;
     }
     say::text(b", but should give ");
-    say_outcome(number, due);
+    say_outcome(due);
     say::text(b"\n");
-    0
+    false
 }
 
-pub fn stamp(label: &[u8], format: &[u8], record: Record, due: &[u8]) -> u64
-    ensures { result ≤ 1 }
-{
+pub fn stamp(label: &[u8], format: &[u8], record: Record, due: Result<&[u8], Refusal>) -> bool {
     let mut buffer = [0u8; 64];
-    stamp_in(label, format, record, &mut buffer, 0, due)
-}
-
-pub fn refusal(label: &[u8], format: &[u8], record: Record, number: u64) -> u64
-    ensures { result ≤ 1 }
-{
-    let mut buffer = [0u8; 64];
-    stamp_in(label, format, record, &mut buffer, number, b"")
+    stamp_in(label, format, record, &mut buffer, due)
 }

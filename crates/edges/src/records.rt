@@ -19,45 +19,51 @@ pub fn universal() -> Record {
 }
 
 pub fn year_minus_one() -> Record {
-    let mut record = universal();
-    record.year = -1;
-    record.day = 5;
-    record
+    Record {
+        year: -1,
+        day: 5,
+        ..universal()
+    }
 }
 
 pub fn nine_hours() -> Record {
-    let mut record = universal();
-    record.is_utc = false;
-    record.utc_offset = 32400;
-    record
+    Record {
+        is_utc: false,
+        utc_offset: 32400,
+        ..universal()
+    }
 }
 
 pub fn end_of_2024() -> Record {
-    let mut record = universal();
-    record.year = 2024;
-    record.day_of_week = 1;
-    record.day_of_year = 365;
-    record
+    Record {
+        year: 2024,
+        day_of_week: 1,
+        day_of_year: 365,
+        ..universal()
+    }
 }
 
 pub fn start_of_2021() -> Record {
-    let mut record = universal();
-    record.year = 2021;
-    record.day_of_week = 0;
-    record.day_of_year = 3;
-    record
+    Record {
+        year: 2021,
+        day_of_week: 0,
+        day_of_year: 3,
+        ..universal()
+    }
 }
 
 pub fn february() -> Record {
-    let mut record = universal();
-    record.year = 2024;
-    record.month = 2;
-    record.day = 29;
-    record
+    Record {
+        year: 2024,
+        month: 2,
+        day: 29,
+        ..universal()
+    }
 }
 
 pub fn at_second(second: u8) -> Record {
-    let mut record = universal();
-    record.second = second;
-    record
+    Record {
+        second,
+        ..universal()
+    }
 }

@@ -1,12 +1,10 @@
 -- Checks one after the other: of fields, of the bytes of a zone name.
-use mathlib.Core.Path.{◌≡◌, refl, sym, ◌∙◌}
+use mathlib.Core.Path.{◌≡◌, refl, sym, ap, ◌∙◌}
 use mathlib.Core.Bool.{Bool, true, false, ◌&&◌, and-true, and_assoc}
 use mathlib.Core.List.{List, [], ◌∷◌, ◌++◌}
-use Prim.Native.Nat.{ℕ, ◌+◌, ◌≤◌, ◌<◌}
-use native.Mathlib.Numerals.{add-one}
-use lib.ListN.{length, drop, get_or, drop_of_length-le}
-use lib.Seq.{drop-cons}
+use Prim.Native.Nat.{ℕ}
 use Rattle.rules.specs.declared.Record.{Record}
+use Rattle.std.specs.List.{list_all}
 use Rattle.rules.specs.Record.{Field, ok_field, all_ok, zone_byte_ok, zone_ok}
 
 -- ## `a && b`: it is b where a holds, else a
@@ -41,16 +39,9 @@ module _ (r : Record) (zone : List ℕ) where
   pub two_failed : (f g : Field) {a : Bool} → a ≡ ok_field f r zone → a ≡ false → a ≡ all_ok (f ∷ g ∷ []) r zone
   two_failed f g p h = failed (f ∷ []) (g ∷ []) (alone f p) h
 
--- ## The bytes of a zone name, from one on
+-- ## The bytes of a zone name
 
-pub zone_more : (zone : List ℕ) (i : ℕ) → i < length zone → zone_byte_ok (get_or zone i 0) ≡ true → zone_ok (drop i zone) ≡ zone_ok (drop (i + 1) zone)
+pub all_bytes : (zone : List ℕ) → list_all zone_byte_ok zone ≡ zone_ok zone
 unfolding zone_ok
-zone_more zone i h b = rw (drop-cons zone i 0 h, b, add-one)
-
-pub zone_failed : (zone : List ℕ) (i : ℕ) → i < length zone → zone_byte_ok (get_or zone i 0) ≡ false → zone_ok (drop i zone) ≡ false
-unfolding zone_ok
-zone_failed zone i h b = rw (drop-cons zone i 0 h, b)
-
-pub zone_done : (zone : List ℕ) (i : ℕ) → length zone ≤ i → zone_ok (drop i zone) ≡ true
-unfolding zone_ok
-zone_done zone i h = rw (drop_of_length-le zone h)
+all_bytes [] = refl
+all_bytes (b ∷ zone) = ap (λ (t : Bool). zone_byte_ok b && t) (all_bytes zone)

@@ -3,31 +3,36 @@
 
 ghost use Rattle.std.specs.Prelude.{◌≡◌, List, [], ◌∷◌, ℕ};
 ghost use Rattle.rules.specs.Record.{ok_field, all_ok, zone_byte_ok, zone_ok, last_day_of, month, day, hour, minute, second, nanoseconds, weekday, day_of_year};
+ghost use Rattle.rules.specs.Refusal.{number_in_check};
 ghost use Rattle.rules.specs.Writing.{combination_fields, verdict};
 ghost use Rattle.rules.specs.declared.Combination.TheVariants.{CombinationDateTime};
 
-use rules::Record;
+use rules::{Record, Refusal};
 
-// What the check of a directive comes to: 0, or the refusal's number.
-#[tactic(auto, unfolding(rules::specs::Writing::verdict))]
-pub fn verdict(ok: bool) -> usize
-    ensures { result ≡ verdict ok }
+// What the check of a directive comes to.
+#[tactic(auto, unfolding(rules::specs::Writing::verdict, rules::specs::Refusal::number_in_check, rules::specs::Refusal::number_of))]
+pub fn verdict(ok: bool) -> Result<(), Refusal>
+    ensures { number_in_check result ≡ verdict ok }
 {
-    if ok { 0 } else { 1 }
+    if ok {
+        Ok(())
+    } else {
+        Err(Refusal::InvalidTime)
+    }
 }
 
 #[tactic(auto, unfolding(rules::specs::Record::ok_field))]
 pub fn month(record: Record) -> bool
     ensures { (zone : List ℕ) → result ≡ ok_field month «record» zone }
 {
-    1 <= record.month && record.month <= 12
+    (1..=12).contains(&record.month)
 }
 
 #[tactic(auto, unfolding(rules::specs::Record::ok_field))]
 pub fn day(record: Record) -> bool
     ensures { (zone : List ℕ) → result ≡ ok_field day «record» zone }
 {
-    1 <= record.day && record.day <= 31
+    (1..=31).contains(&record.day)
 }
 
 #[tactic(auto, unfolding(rules::specs::Record::ok_field))]
@@ -84,20 +89,13 @@ pub fn day_of_year(record: Record) -> bool
 fn zone_byte(b: u8) -> bool
     ensures { result ≡ zone_byte_ok b }
 {
-    32 <= b && b <= 126
+    (32..=126).contains(&b)
 }
 
 pub fn time_zone(zone: &[u8]) -> bool
     ensures { result ≡ zone_ok zone.now }
 {
-    let mut i = 0;
-    while i < zone.len() {
-        if !zone_byte(zone[i]) {
-            return false;
-        }
-        i += 1;
-    }
-    true
+    zone.iter().all(|&b| zone_byte(b))
 }
 
 #[tactic(auto, unfolding(rules::specs::Record::all_ok))]

@@ -4,7 +4,7 @@ ghost use Rattle.rules.specs.Runs.{bring, close, progressed, held, said_in, begu
 ghost use Rattle.groatsaddle.specs.Entries.{record_from};
 ghost use Rattle.groatsaddle.specs.Runs.{runs_from, runs_to, progress_to, gs_held, held_to};
 
-use crate::{GsRecord, record_from};
+use crate::GsRecord;
 use rules::{Progress, Runs};
 
 // `over` is a byte, since a C caller can put anything there: 0 is no, all else is yes.
@@ -27,54 +27,60 @@ pub struct GsProgress {
     pub length: usize,
 }
 
-#[tactic(auto, unfolding(crate::specs::Runs::runs_from))]
-fn runs_from(s: GsRuns) -> Runs
-    ensures { result ≡ runs_from s }
-{
-    Runs {
-        total: s.total,
-        passed: s.passed,
-        kept: s.kept,
-        written: s.written,
-        number: s.number,
-        over: s.over != 0,
+impl From<GsRuns> for Runs {
+    ghost from_gives = { λ given taken. taken ≡ runs_from given };
+
+    #[tactic(auto, unfolding(crate::specs::Runs::runs_from))]
+    fn from(s: GsRuns) -> Runs {
+        Runs {
+            total: s.total,
+            passed: s.passed,
+            kept: s.kept,
+            written: s.written,
+            number: s.number,
+            over: s.over != 0,
+        }
     }
 }
 
-#[tactic(auto, unfolding(crate::specs::Runs::runs_to), using(crate::proofs::Laws::byte_is))]
-fn runs_to(s: Runs) -> GsRuns
-    ensures { result ≡ runs_to s }
-{
-    GsRuns {
-        total: s.total,
-        passed: s.passed,
-        kept: s.kept,
-        written: s.written,
-        number: s.number,
-        over: s.over as u8,
+impl From<Runs> for GsRuns {
+    ghost from_gives = { λ made given. given ≡ runs_to made };
+
+    #[tactic(auto, unfolding(crate::specs::Runs::runs_to), using(crate::proofs::Laws::byte_is))]
+    fn from(s: Runs) -> GsRuns {
+        GsRuns {
+            total: s.total,
+            passed: s.passed,
+            kept: s.kept,
+            written: s.written,
+            number: s.number,
+            over: s.over as u8,
+        }
     }
 }
 
-#[tactic(auto, unfolding(crate::specs::Runs::progress_to, rules::specs::Runs::progressed))]
-fn progress_to(progress: Progress) -> GsProgress
-    ensures { result ≡ progress_to (progressed progress) }
-{
-    match progress {
-        Progress::More => GsProgress {
-            refusal: 0,
-            more: 1,
-            length: 0,
-        },
-        Progress::Done(length) => GsProgress {
-            refusal: 0,
-            more: 0,
-            length,
-        },
-        Progress::Refused(refusal) => GsProgress {
-            refusal: rules::number_of(refusal),
-            more: 0,
-            length: 0,
-        },
+impl From<Progress> for GsProgress {
+    ghost from_gives = { λ progress given. given ≡ progress_to (progressed progress) };
+
+    #[tactic(auto, unfolding(crate::specs::Runs::progress_to, rules::specs::Runs::progressed))]
+    fn from(progress: Progress) -> GsProgress {
+        match progress {
+            Progress::More => GsProgress {
+                refusal: 0,
+                more: 1,
+                length: 0,
+            },
+            Progress::Done(length) => GsProgress {
+                refusal: 0,
+                more: 0,
+                length,
+            },
+            Progress::Refused(refusal) => GsProgress {
+                refusal: u32::from(refusal),
+                more: 0,
+                length: 0,
+            },
+        }
     }
 }
 
@@ -82,7 +88,7 @@ fn progress_to(progress: Progress) -> GsProgress
 pub extern "C" fn gs_runs_start(total: usize, zone: &[u8], store: &[u8], buffer: &[u8]) -> GsRuns
     ensures { result ≡ runs_to (begun total zone.now store.now buffer.now).numbers }
 {
-    runs_to(runs::start(total, zone, store, buffer))
+    runs::start(total, zone, store, buffer).into()
 }
 
 #[unsafe(no_mangle)]
@@ -96,15 +102,7 @@ pub extern "C" fn gs_runs_run(
 ) -> GsRuns
     ensures { gs_held result store.new buffer.new ≡ held_to (held_after zone.now (record_from «record») (held (runs_from runs) store.old buffer.old) (bring bytes.now)) }
 {
-    let after = runs::run(
-        runs_from(runs),
-        bytes,
-        zone,
-        record_from(record),
-        store,
-        buffer,
-    );
-    runs_to(after)
+    runs::run(runs.into(), bytes, zone, record.into(), store, buffer).into()
 }
 
 #[unsafe(no_mangle)]
@@ -117,8 +115,7 @@ pub extern "C" fn gs_runs_end(
 ) -> GsRuns
     ensures { gs_held result store.now buffer.new ≡ held_to (held_after zone.now (record_from «record») (held (runs_from runs) store.now buffer.old) close) }
 {
-    let after = runs::end(runs_from(runs), zone, record_from(record), store, buffer);
-    runs_to(after)
+    runs::end(runs.into(), zone, record.into(), store, buffer).into()
 }
 
 // What the last call answered.
@@ -126,5 +123,5 @@ pub extern "C" fn gs_runs_end(
 pub extern "C" fn gs_runs_answer(runs: GsRuns) -> GsProgress
     ensures { result ≡ progress_to (said_in (runs_from runs)) }
 {
-    progress_to(runs::answer_of(runs_from(runs)))
+    runs::answer_of(runs.into()).into()
 }

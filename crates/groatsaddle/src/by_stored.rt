@@ -4,7 +4,7 @@ ghost use Rattle.rules.specs.Event.{reported, buffer_after};
 ghost use Rattle.rules.specs.Stored.{compiled, formatted_stored};
 ghost use Rattle.groatsaddle.specs.Entries.{record_from, report_from};
 
-use crate::{GsAnswer, GsRecord, answer_from, record_from};
+use crate::{GsAnswer, GsRecord, answer_from};
 
 #[tactic(auto, using(crate::proofs::StoredLaws::compiled_small))]
 #[unsafe(no_mangle)]
@@ -28,6 +28,6 @@ pub extern "C" fn gs_format_stored(
     ensures answer { report_from result ≡ reported (formatted_stored stored.now format_length zone.now (record_from «record») (length buffer.old)) }
     ensures buffer { buffer.new ≡ buffer_after (formatted_stored stored.now format_length zone.now (record_from «record») (length buffer.old)) buffer.old }
 {
-    let answer = stored::format_stored(stored, format_length, zone, record_from(record), buffer);
+    let answer = stored::format_stored(stored, format_length, zone, record.into(), buffer);
     answer_from(answer)
 }

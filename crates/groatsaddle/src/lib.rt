@@ -17,11 +17,11 @@ ghost use Rattle.groatsaddle.specs.Entries.{record_from, report_from, record_to,
 
 pub use by_runs::{gs_runs_answer, gs_runs_end, gs_runs_run, gs_runs_start};
 pub use by_stored::{gs_compile, gs_format_stored};
-use rules::{Answer, Counted, Dated, Record};
+use rules::{Record, Refusal};
 
 // `is_utc` is a byte, since a C caller can put anything there: 0 is no, all else is yes.
 #[repr(C)]
-#[derive(Clone, Copy)]
+#[derive(Clone, Copy, Default)]
 pub struct GsRecord {
     pub year: i32,
     pub month: u8,
@@ -58,105 +58,98 @@ pub struct GsCounted {
     pub count: i64,
 }
 
-#[tactic(auto, unfolding(crate::specs::Entries::record_from))]
-fn record_from(r: GsRecord) -> Record
-    ensures { result ≡ record_from r }
-{
-    Record {
-        year: r.year,
-        month: r.month,
-        day: r.day,
-        hour: r.hour,
-        minute: r.minute,
-        second: r.second,
-        nanoseconds: r.nanoseconds,
-        day_of_week: r.day_of_week,
-        day_of_year: r.day_of_year,
-        to_int: r.to_int,
-        is_utc: r.is_utc != 0,
-        utc_offset: r.utc_offset,
+impl From<GsRecord> for Record {
+    ghost from_gives = { λ given taken. taken ≡ record_from given };
+
+    #[tactic(auto, unfolding(crate::specs::Entries::record_from))]
+    fn from(r: GsRecord) -> Record {
+        Record {
+            year: r.year,
+            month: r.month,
+            day: r.day,
+            hour: r.hour,
+            minute: r.minute,
+            second: r.second,
+            nanoseconds: r.nanoseconds,
+            day_of_week: r.day_of_week,
+            day_of_year: r.day_of_year,
+            to_int: r.to_int,
+            is_utc: r.is_utc != 0,
+            utc_offset: r.utc_offset,
+        }
     }
 }
 
+impl From<Record> for GsRecord {
+    ghost from_gives = { λ made given. given ≡ record_to made };
+
+    #[tactic(auto, unfolding(crate::specs::Entries::record_to), using(crate::proofs::Laws::byte_is))]
+    fn from(r: Record) -> GsRecord {
+        GsRecord {
+            year: r.year,
+            month: r.month,
+            day: r.day,
+            hour: r.hour,
+            minute: r.minute,
+            second: r.second,
+            nanoseconds: r.nanoseconds,
+            day_of_week: r.day_of_week,
+            day_of_year: r.day_of_year,
+            to_int: r.to_int,
+            is_utc: r.is_utc as u8,
+            utc_offset: r.utc_offset,
+        }
+    }
+}
+
+// No `From`, which can't ask that the length fits a `u32`.
 #[tactic(auto, unfolding(crate::specs::Entries::report_from, rules::specs::Refusal::numbered))]
-fn answer_from(answer: Answer) -> GsAnswer
+fn answer_from(answer: Result<usize, Refusal>) -> GsAnswer
     requires { (numbered answer).bytes ≤ longest_buffer }
     ensures { report_from result ≡ numbered answer }
 {
     match answer {
-        Answer::Done(length) => GsAnswer {
+        Ok(length) => GsAnswer {
             refusal: 0,
             length: length as u32,
         },
-        Answer::Refused(refusal) => GsAnswer {
-            refusal: rules::number_of(refusal),
+        Err(refusal) => GsAnswer {
+            refusal: u32::from(refusal),
             length: 0,
         },
     }
 }
 
-#[tactic(auto, unfolding(crate::specs::Entries::record_to), using(crate::proofs::Laws::byte_is))]
-fn record_to(r: Record) -> GsRecord
-    ensures { result ≡ record_to r }
-{
-    GsRecord {
-        year: r.year,
-        month: r.month,
-        day: r.day,
-        hour: r.hour,
-        minute: r.minute,
-        second: r.second,
-        nanoseconds: r.nanoseconds,
-        day_of_week: r.day_of_week,
-        day_of_year: r.day_of_year,
-        to_int: r.to_int,
-        is_utc: r.is_utc as u8,
-        utc_offset: r.utc_offset,
+impl From<Result<Record, Refusal>> for GsDated {
+    ghost from_gives = { λ dated given. given ≡ dated_to (dated_reply dated) };
+
+    #[tactic(auto, unfolding(crate::specs::Entries::dated_to, rules::specs::Counter::dated_reply))]
+    fn from(dated: Result<Record, Refusal>) -> GsDated {
+        match dated {
+            Ok(made) => GsDated {
+                refusal: 0,
+                record: GsRecord::from(made),
+            },
+            Err(refusal) => GsDated {
+                refusal: u32::from(refusal),
+                record: GsRecord::default(),
+            },
+        }
     }
 }
 
-#[tactic(auto, unfolding(crate::specs::Entries::dated_to, rules::specs::Counter::dated_reply))]
-fn dated_to(dated: Dated) -> GsDated
-    ensures { result ≡ dated_to (dated_reply dated) }
-{
-    match dated {
-        Dated::Made(made) => {
-            let record = record_to(made);
-            GsDated { refusal: 0, record }
-        },
-        Dated::Refused(refusal) => {
-            let record = GsRecord {
-                year: 0,
-                month: 0,
-                day: 0,
-                hour: 0,
-                minute: 0,
-                second: 0,
-                nanoseconds: 0,
-                day_of_week: 0,
-                day_of_year: 0,
-                to_int: 0,
-                is_utc: 0,
-                utc_offset: 0,
-            };
-            GsDated {
-                refusal: rules::number_of(refusal),
-                record,
-            }
-        },
-    }
-}
+impl From<Result<i64, Refusal>> for GsCounted {
+    ghost from_gives = { λ counted given. given ≡ counted_to (counted_reply counted) };
 
-#[tactic(auto, unfolding(crate::specs::Entries::counted_to, rules::specs::Counter::counted_reply))]
-fn counted_to(counted: Counted) -> GsCounted
-    ensures { result ≡ counted_to (counted_reply counted) }
-{
-    match counted {
-        Counted::Count(count) => GsCounted { refusal: 0, count },
-        Counted::Refused(refusal) => GsCounted {
-            refusal: rules::number_of(refusal),
-            count: 0,
-        },
+    #[tactic(auto, unfolding(crate::specs::Entries::counted_to, rules::specs::Counter::counted_reply))]
+    fn from(counted: Result<i64, Refusal>) -> GsCounted {
+        match counted {
+            Ok(count) => GsCounted { refusal: 0, count },
+            Err(refusal) => GsCounted {
+                refusal: u32::from(refusal),
+                count: 0,
+            },
+        }
     }
 }
 
@@ -171,7 +164,7 @@ pub extern "C" fn gs_format(
     ensures answer { report_from result ≡ reported (formatted format.now zone.now (record_from «record») (length buffer.old)) }
     ensures buffer { buffer.new ≡ buffer_after (formatted format.now zone.now (record_from «record») (length buffer.old)) buffer.old }
 {
-    let answer = strftime::format(format, zone, record_from(record), buffer);
+    let answer = strftime::format(format, zone, record.into(), buffer);
     answer_from(answer)
 }
 
@@ -194,12 +187,12 @@ pub extern "C" fn gs_record_from_count(
 ) -> GsDated
     ensures { GsDatedBy count utc_offset nanoseconds is_utc result }
 {
-    dated_to(calendar::record_from_count(count, utc_offset, nanoseconds, is_utc != 0))
+    calendar::record_from_count(count, utc_offset, nanoseconds, is_utc != 0).into()
 }
 
 #[unsafe(no_mangle)]
 pub extern "C" fn gs_count_from_record(record: GsRecord) -> GsCounted
     ensures { GsCountedBy «record» result }
 {
-    counted_to(calendar::count_from_record(record_from(record)))
+    calendar::count_from_record(record.into()).into()
 }

@@ -1,4 +1,5 @@
 -- What an arm of the match on a letter says: the plain directive of the table's entry; and the bounds of the numbers that are written in one, two or three digits.
+use Rattle.std.specs.Prelude.{Some}
 use mathlib.Core.Path.{◌≡◌, refl, sym, ap, ◌∙◌}
 use mathlib.Core.Bool.{Bool, true, false}
 use mathlib.Core.List.{List, [], ◌∷◌}
@@ -7,7 +8,6 @@ use Prim.Native.Nat.{ℕ, ◌≤◌, ◌<◌}
 use native.Mathlib.Omega.{arith}
 use lib.Dec.{eqb}
 use lib.IntN.{ℤ}
-use Rattle.rules.specs.declared.Entry.TheVariants.{Is}
 use Rattle.rules.specs.declared.IsoWeek.{IsoWeek}
 use Rattle.rules.specs.declared.Number.{Number}
 use Rattle.rules.specs.declared.Record.{Record}
@@ -31,16 +31,16 @@ use Rattle.letters.specs.Printed.{valued, Printed}
 -- ## The entry of a letter
 
 module _ {limit room : ℕ} (r : Record) (zone : List ℕ) (s : Spec) {l l' : List ℕ} {n n' : ℕ} where
-  pub known : {b k : ℕ} → b ≡ k → spec_of k ≡ Is s → RanPlain limit room s r zone l n l' n' → Lettered limit room b r zone l n l' n'
+  pub known : {b k : ℕ} → b ≡ k → spec_of k ≡ Some s → RanPlain limit room s r zone l n l' n' → Lettered limit room b r zone l n l' n'
   known e f w = inl (record { spec = s; entry = ap spec_of e ∙ f; ran = w })
 
   -- one of two letters
-  pub known_two : {b j k : ℕ} → (b ≡ j) ⊎ (b ≡ k) → spec_of j ≡ Is s → spec_of k ≡ Is s → RanPlain limit room s r zone l n l' n' → Lettered limit room b r zone l n l' n'
+  pub known_two : {b j k : ℕ} → (b ≡ j) ⊎ (b ≡ k) → spec_of j ≡ Some s → spec_of k ≡ Some s → RanPlain limit room s r zone l n l' n' → Lettered limit room b r zone l n l' n'
   known_two (inl e) f g w = known e f w
   known_two (inr e) f g w = known e g w
 
 -- a number, by its value
-pub of_value : {limit room : ℕ} (r : Record) (zone : List ℕ) (m : Number) {b k : ℕ} {v : Value} {l l' : List ℕ} {n n' : ℕ} → b ≡ k → spec_of k ≡ Is (number m) → ValueIs m r v → Printed room v l n l' n' → Lettered limit room b r zone l n l' n'
+pub of_value : {limit room : ℕ} (r : Record) (zone : List ℕ) (m : Number) {b k : ℕ} {v : Value} {l l' : List ℕ} {n n' : ℕ} → b ≡ k → spec_of k ≡ Some (number m) → ValueIs m r v → Printed room v l n l' n' → Lettered limit room b r zone l n l' n'
 of_value {limit} r zone m e f is w = known r zone (number m) e f (w limit m r zone is)
 
 pub exact : {ok : Bool} {v : ℤ} {width : ℕ} {space : Bool} → width ≤ 5 → Valued ok v width space (valued ok v width space)

@@ -1,6 +1,5 @@
 -- What the plain directive of a letter does, and what a byte that is no letter gets.
-use Rattle.std.specs.Prelude.{◌≡◌, List, ◌⊎◌, ℕ}
-use Rattle.rules.specs.declared.Entry.TheVariants.{Is}
+use Rattle.std.specs.Prelude.{◌≡◌, List, ◌⊎◌, ℕ, Some}
 use Rattle.rules.specs.declared.Record.{Record}
 use Rattle.rules.specs.declared.Spec.{Spec}
 use Rattle.rules.specs.Reading.{spec_of}
@@ -15,7 +14,7 @@ RanPlain limit room s r zone l n l' n' = Ran limit room (spec_events s (plain_pi
 -- so has that of the table's entry for b
 pub record RanLetter (limit room b : ℕ) (r : Record) (zone l : List ℕ) (n : ℕ) (l' : List ℕ) (n' : ℕ) : Type 0 where
   pub spec : Spec
-  pub entry : spec_of b ≡ Is spec
+  pub entry : spec_of b ≡ Some spec
   pub ran : RanPlain limit room spec r zone l n l' n'
 
 -- the answer for a byte that is no letter: one less than the unit of a refused place, so further than any text comes

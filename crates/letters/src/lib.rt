@@ -10,14 +10,15 @@ ghost use Rattle.letters.specs.Letter.{Lettered};
 use leaves::{decimal, one_or, spaced_or, three_or, two_or, year_or};
 use name_directive::{plain_fixed, plain_name, plain_zone_name};
 use number_directive::fraction;
-use numbers::{div_euclid_100, rem_euclid_100, rem_euclid_100_wide};
+use numbers::{Year, div_euclid_100};
 use offset_directive::plain_offset;
 use rules::{Fixed, Name, Offset, Record};
 use text::pad_none;
 use values::{from_1, hour12, iso, week_of};
 use week::WeekStart;
 
-// The answer for a byte that is no letter: a place that no run comes to.
+// The answer for a byte that is no letter: a place that no run comes to. As an Option the answer takes 1.04 of the instructions of a stamp: its tag
+// needs a register of its own, and the combinations are no tail calls.
 pub const NOT_A_LETTER: usize = 131071;
 
 // The place after the directive, or that the byte is no letter. A combination's pad of no bytes stays: it refuses a place beyond the room
@@ -93,7 +94,7 @@ pub fn letter(
             at,
             room,
             fields::week(record),
-            rem_euclid_100_wide(iso(record).year),
+            iso(record).year.rem_euclid_100(),
         ),
         b'j' => three_or(
             out,
@@ -131,7 +132,7 @@ pub fn letter(
             fields::day_of_week(record),
             record.day_of_week,
         ),
-        b'y' => two_or(out, at, room, true, rem_euclid_100(record.year)),
+        b'y' => two_or(out, at, room, true, record.year.rem_euclid_100()),
         b'z' => plain_offset(
             out,
             at,

@@ -1,28 +1,26 @@
 // The commonest numbers with the left flag alone, `%-d` and its like: a quick way to what the parser and `directive` do.
-ghost use Rattle.std.specs.Prelude.{[], ◌∷◌, ℕ, ◌<◌, pos};
+ghost use Rattle.std.specs.Bool.{then_some};
+ghost use Rattle.std.specs.Prelude.{◌≡◌, [], ◌∷◌, ℕ, ◌<◌, pos, Some};
 ghost use Rattle.rules.specs.Decimal.{decimal_text};
 ghost use Rattle.rules.specs.Event as event;
 ghost use Rattle.text.specs.Ran.{Ran};
 ghost use Rattle.text.specs.Room.{Room};
-ghost use Rattle.letters.specs.Short.{Short, Held};
+ghost use Rattle.letters.specs.Short.{Short};
 
 use rules::Record;
 use values::hour12;
 
-// A number in range, or 100.
-fn if_ok(ok: bool, number: u8) -> u8
-    ensures { result < 100 → Held ok number result }
+// A number whose check comes to no refusal.
+#[tactic(auto, unfolding(rules::specs::Refusal::number_in_check, rules::specs::Refusal::number_of, rules::specs::Writing::verdict))]
+fn if_ok(ok: bool, number: u8) -> Option<u8>
+    ensures { result ≡ then_some ok number }
 {
-    if fields::verdict(ok) == 0 {
-        number
-    } else {
-        100
-    }
+    fields::verdict(ok).is_ok().then_some(number)
 }
 
-// The number of the letter after `-`, if its field is in range, or 100.
-pub fn short_of(b: u8, record: Record) -> u8
-    ensures { result < 100 → Short «record» b result }
+// The number of the letter after `-`, if its field is in range.
+pub fn short_of(b: u8, record: Record) -> Option<u8>
+    ensures { (v : ℕ) → result ≡ Some v → Short «record» b v × (v < 100) }
 {
     match b {
         b'H' | b'k' => if_ok(fields::hour(record), record.hour),
@@ -32,7 +30,7 @@ pub fn short_of(b: u8, record: Record) -> u8
         b'd' => if_ok(fields::day(record), record.day),
         b'e' => if_ok(fields::day(record), record.day),
         b'm' => if_ok(fields::month(record), record.month),
-        _ => 100,
+        _ => None,
     }
 }
 

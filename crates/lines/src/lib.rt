@@ -1,90 +1,60 @@
 // Added to the original: reads the stored list of its answers. tests/compare/README.md has the form of a line.
 #![tactic(auto)]
 
-mod number;
+mod reader;
 mod record;
 mod text;
 
-ghost use Rattle.std.specs.Prelude.{length};
-ghost use Rattle.lines.specs.Within.{Holds, ToldWithin, LineWithin};
+ghost use Rattle.std.specs.Prelude.{length, IfSome};
+ghost use Rattle.lines.specs.Within.{AnswerWithin, CaseWithin};
 
-use number::{Number, read_number};
-use record::{Fields, read_record};
-use rules::Record;
-use text::{Text, read_field, read_text};
+use reader::Reader;
+use rules::{Record, Refusal};
 
-// The numbers of bytes are those that were put at the starts of the lent buffers.
+// The numbers of bytes are those that were put at the starts of the lent buffers, and so is that of an answer, for its text.
+// No slices: the buffers are lent again for the next line.
 #[derive(Clone, Copy)]
 pub struct Case {
     pub format: usize,
     pub zone: usize,
     pub room: usize,
     pub record: Record,
-    pub answer: u64,
-    pub text: usize,
-}
-
-#[derive(Clone, Copy)]
-pub enum Line {
-    Case(Case),
-    Unread,
-}
-
-#[derive(Clone, Copy)]
-enum Told {
-    Is(u64, usize),
-    Missing,
+    pub answer: Result<usize, Refusal>,
 }
 
 // ANSWER, and TEXT where it is 0. The line ends there.
-fn read_answer(line: &[u8], at: usize, text: &mut [u8]) -> Told
-    ensures { Holds (ToldWithin (length text.old)) result }
+#[tactic(auto, unfolding(rules::specs::Refusal::numbered, rules::specs::Refusal::number_of, rules::specs::Refusal::refusal_with))]
+fn read_answer(mut reader: Reader, text: &mut [u8]) -> Option<Result<usize, Refusal>>
+    ensures { IfSome result (AnswerWithin (length text.old)) }
 {
-    let Number::Is(answer, next) = read_number(line, at, 4) else {
-        return Told::Missing;
+    let answer = match reader.number(4)? {
+        0 => Ok(reader.field(text)?),
+        number => Err(Refusal::try_from(number as usize).ok()?),
     };
-    if answer != 0 {
-        if next == line.len() {
-            return Told::Is(answer, 0);
-        }
-        return Told::Missing;
+    if !reader.rest.is_empty() {
+        return None;
     }
-    let Text::Of(count, end) = read_field(line, next, text) else {
-        return Told::Missing;
-    };
-    if end == line.len() {
-        return Told::Is(0, count);
-    }
-    Told::Missing
+    Some(answer)
 }
 
-pub fn read_line(line: &[u8], format: &mut [u8], zone: &mut [u8], text: &mut [u8]) -> Line
-    ensures { Holds (LineWithin (length format.old) (length zone.old) (length text.old)) result }
+#[tactic(auto, unfolding(rules::specs::Refusal::numbered))]
+pub fn read_line(line: &[u8], format: &mut [u8], zone: &mut [u8], text: &mut [u8]) -> Option<Case>
+    ensures { IfSome result (CaseWithin (length format.old) (length zone.old) (length text.old)) }
 {
-    let Text::Of(format_count, after_format) = read_text(line, 0, format) else {
-        return Line::Unread;
-    };
-    let Text::Of(zone_count, after_zone) = read_field(line, after_format, zone) else {
-        return Line::Unread;
-    };
-    let Number::Is(room, after_room) = read_number(line, after_zone, 65536) else {
-        return Line::Unread;
-    };
-    let Fields::Are(record, after_record) = read_record(line, after_room) else {
-        return Line::Unread;
-    };
-    let Told::Is(answer, text_count) = read_answer(line, after_record, text) else {
-        return Line::Unread;
-    };
-    if room < text_count as u64 {
-        return Line::Unread;
+    let mut reader = Reader { rest: line };
+    let format_count = reader.text(format)?;
+    let zone_count = reader.field(zone)?;
+    let room = reader.number(65536)? as usize;
+    let record = reader.record()?;
+    let answer = read_answer(reader, text)?;
+    if answer.is_ok_and(|count| room < count) {
+        return None;
     }
-    Line::Case(Case {
+    Some(Case {
         format: format_count,
         zone: zone_count,
-        room: room as usize,
+        room,
         record,
         answer,
-        text: text_count,
     })
 }

@@ -1,154 +1,76 @@
 // Byte strings of a line, which are put into a lent buffer.
-ghost use Rattle.std.specs.Prelude.{◌≤◌, ◌<◌, length};
-ghost use Rattle.lines.specs.Within.{Holds, DigitWithin, LetterWithin, RunWithin, TextWithin};
+ghost use Rattle.std.specs.Prelude.{◌≤◌, ◌<◌, length, IfSome};
+ghost use Rattle.lines.specs.Within.{Shortens};
 
-use crate::number::{Number, has_byte, read_digits};
+use crate::reader::Reader;
 
-// A hexadecimal digit.
-#[derive(Clone, Copy)]
-enum Digit {
-    Is(u8),
-    Missing,
-}
-
-// A byte and the next position.
-#[derive(Clone, Copy)]
-enum Letter {
-    Is(u8, usize),
-    Missing,
-}
-
-// A byte, how many times it stands, and the next position.
-#[derive(Clone, Copy)]
-enum Run {
-    Of(u8, usize, usize),
-    Missing,
-}
-
-// How many bytes there are, and the next position.
-#[derive(Clone, Copy)]
-pub enum Text {
-    Of(usize, usize),
-    Missing,
-}
-
-fn hex_digit(byte: u8) -> Digit
-    ensures { Holds DigitWithin result }
-{
-    match byte {
-        b'0'..=b'9' => Digit::Is(byte - b'0'),
-        b'a'..=b'f' => Digit::Is(byte - b'a' + 10),
-        _ => Digit::Missing,
-    }
-}
-
-// `\hh`, whose backslash stands at `at`.
-fn read_escape(line: &[u8], at: usize) -> Letter
-    requires { at < length line.now }
-    ensures { Holds (LetterWithin at (length line.now)) result }
-{
-    if line.len() - at <= 2 {
-        return Letter::Missing;
-    }
-    let Digit::Is(sixteens) = hex_digit(line[at + 1]) else {
-        return Letter::Missing;
-    };
-    let Digit::Is(ones) = hex_digit(line[at + 2]) else {
-        return Letter::Missing;
-    };
-    Letter::Is(sixteens * 16 + ones, at + 3)
-}
-
-fn read_letter(line: &[u8], at: usize) -> Letter
-    ensures { Holds (LetterWithin at (length line.now)) result }
-{
-    if line.len() <= at {
-        return Letter::Missing;
-    }
-    let byte = line[at];
-    if byte == b'\\' {
-        return read_escape(line, at);
-    }
-    if byte <= b' ' {
-        return Letter::Missing;
-    }
-    if byte > b'~' {
-        return Letter::Missing;
-    }
-    Letter::Is(byte, at + 1)
-}
-
-// A byte, and `\*N;` behind it where it stands N times.
-fn read_run(line: &[u8], at: usize) -> Run
-    ensures { Holds (RunWithin at (length line.now)) result }
-{
-    let Letter::Is(byte, next) = read_letter(line, at) else {
-        return Run::Missing;
-    };
-    if !has_byte(line, next, b'\\') {
-        return Run::Of(byte, 1, next);
-    }
-    if !has_byte(line, next + 1, b'*') {
-        return Run::Of(byte, 1, next);
-    }
-    let Number::Is(times, end) = read_digits(line, next + 2, 65536) else {
-        return Run::Missing;
-    };
-    if times < 2 {
-        return Run::Missing;
-    }
-    if !has_byte(line, end, b';') {
-        return Run::Missing;
-    }
-    Run::Of(byte, times as usize, end + 1)
-}
-
-fn fill(out: &mut [u8], from: usize, end: usize, byte: u8)
-    requires { end ≤ length out.old }
-{
-    let mut i = from;
-    while i < end {
-        out[i] = byte;
-        i += 1;
-    }
-}
-
-// The byte string from `at` on, to a blank or the end of the line.
-pub fn read_text(line: &[u8], at: usize, out: &mut [u8]) -> Text
-    ensures { Holds (TextWithin (length line.now) (length out.old)) result }
-{
-    if has_byte(line, at, b'\\') {
-        if has_byte(line, at + 1, b'-') {
-            return Text::Of(0, at + 2);
+impl Reader<'_> {
+    fn hex_digit(&mut self) -> Option<u8>
+        ensures bound { IfSome result (λ digit. digit < 16) }
+        ensures left { Shortens self.old result self.new }
+    {
+        let byte = *self.rest.split_off_first()?;
+        match byte {
+            b'0'..=b'9' => Some(byte - b'0'),
+            b'a'..=b'f' => Some(byte - b'a' + 10),
+            _ => None,
         }
     }
-    let mut count: usize = 0;
-    let mut next = at;
-    while next < line.len() {
-        if line[next] == b' ' {
-            break;
-        }
-        let Run::Of(byte, times, end) = read_run(line, next) else {
-            return Text::Missing;
-        };
-        if out.len() - count < times {
-            return Text::Missing;
-        }
-        fill(out, count, count + times, byte);
-        count += times;
-        next = end;
-    }
-    if at < next {
-        return Text::Of(count, next);
-    }
-    Text::Missing
-}
 
-pub fn read_field(line: &[u8], at: usize, out: &mut [u8]) -> Text
-    ensures { Holds (TextWithin (length line.now) (length out.old)) result }
-{
-    if has_byte(line, at, b' ') {
-        return read_text(line, at + 1, out);
+    // A byte that stands for itself, or `\hh`.
+    fn letter(&mut self) -> Option<u8>
+        ensures { Shortens self.old result self.new }
+    {
+        let byte = *self.rest.split_off_first()?;
+        match byte {
+            b'\\' => Some(self.hex_digit()? * 16 + self.hex_digit()?),
+            b'!'..=b'~' => Some(byte),
+            _ => None,
+        }
     }
-    Text::Missing
+
+    // A byte and how many times it stands: N, where `\*N;` is behind it.
+    fn run(&mut self) -> Option<(u8, usize)>
+        ensures { Shortens self.old result self.new }
+    {
+        let byte = self.letter()?;
+        if self.skip(b"\\*").is_none() {
+            return Some((byte, 1));
+        }
+        let times = self.digits(65536)?;
+        self.skip(b";")?;
+        if times < 2 {
+            return None;
+        }
+        Some((byte, times as usize))
+    }
+
+    // The byte string up to a blank or the end of the line: how many bytes there are.
+    pub fn text(&mut self, out: &mut [u8]) -> Option<usize>
+        ensures { IfSome result (λ count. count ≤ length out.old) }
+    {
+        if self.skip(b"\\-").is_some() {
+            return Some(0);
+        }
+        let mut count = 0;
+        loop {
+            let (byte, times) = self.run()?;
+            if out.len() - count < times {
+                return None;
+            }
+            out[count..count + times].fill(byte);
+            count += times;
+            if let [] | [b' ', ..] = self.rest {
+                return Some(count);
+            }
+        }
+    }
+
+    // A byte string behind a blank.
+    pub fn field(&mut self, out: &mut [u8]) -> Option<usize>
+        ensures { IfSome result (λ count. count ≤ length out.old) }
+    {
+        self.skip(b" ")?;
+        self.text(out)
+    }
 }

@@ -1,4 +1,5 @@
 -- The formula of the length grows with every measure.
+use Rattle.std.specs.Prelude.{Option, Some, None}
 use mathlib.Core.Bool.{Bool, true, false}
 use mathlib.Core.List.{List, [], ◌∷◌}
 use Prim.Native.Nat.{ℕ, zero, suc, ◌≤◌}
@@ -8,8 +9,6 @@ use Rattle.rules.specs.declared.Record.{Record}
 use Rattle.rules.specs.declared.Number.{Number}
 use Rattle.rules.specs.declared.Name.{Name}
 use Rattle.rules.specs.declared.Offset.{Offset}
-use Rattle.rules.specs.declared.Width.{Width}
-use Rattle.rules.specs.declared.Width.TheVariants.{Unset, Of}
 use Rattle.rules.specs.declared.Combination.{Combination}
 use Rattle.rules.specs.declared.Combination.TheVariants.{CombinationDateTime, CombinationDate, CombinationIso8601, CombinationVmsDate, CombinationTime12h, CombinationHourMinute24h, CombinationTime24h}
 use Rattle.rules.specs.declared.Number.TheVariants.{Year4Digits}
@@ -32,9 +31,9 @@ pub record Below (d e : Extent) : Type 0 where
   pub form : (o : Offset) → d.form o ≤ e.form o
   pub zone : d.zone ≤ e.zone
 
-width_grows : (w : Width) {m n : ℕ} → m ≤ n → width_or w m ≤ width_or w n
-width_grows Unset h = h
-width_grows (Of w) h = le_refl w
+width_grows : (w : Option ℕ) {m n : ℕ} → m ≤ n → width_or w m ≤ width_or w n
+width_grows None h = h
+width_grows (Some w) h = le_refl w
 
 number_grows : (left : Bool) {v w m n : ℕ} → v ≤ w → m ≤ n → number_length left v m ≤ number_length left w n
 unfolding number_length

@@ -1,4 +1,5 @@
 -- The sets of the third demand have the two extremes, so its size is the greater of the two lengths.
+use Rattle.std.specs.Prelude.{Result}
 use mathlib.Core.Path.{◌≡◌, refl}
 use mathlib.Core.Bool.{true}
 use mathlib.Core.List.{List}
@@ -10,10 +11,10 @@ use lib.Dec.{T, lit≤, lit<}
 use lib.ListN.{length}
 use lib.IntN.{ℤ, pos, negsuc}
 use lib.Signed.{mag, nat_abs-le}
+use Rattle.rules.specs.declared.Refusal.{Refusal}
 use Rattle.rules.specs.declared.Record.{Record}
 use Rattle.rules.specs.declared.Offset.TheVariants.{TimeZoneOffsetColonMinimal}
 use Rattle.rules.specs.Record.{within, longest_format, longest_zone}
-use Rattle.rules.specs.declared.Answer.{Answer}
 use Rattle.rules.specs.Refusal.{ByEvent, invalid_format_string, Report, numbered}
 use Rattle.rules.specs.Decimal.{digits, digits_within, decimal_text, floor_div}
 use Rattle.rules.specs.Calendar.{is_leap, leap_day, days_in}
@@ -130,7 +131,7 @@ pub sizing_once : (format : List ℕ) (longest : ℕ) (a b : Report) → Sizing 
 sizing_once format longest a b = once (good_sets longest) format
 
 -- and so are any two answers
-pub size_once : (format : List ℕ) (longest : ℕ) (a b : Answer) → Sizing (AnyStamp longest) (GoodStamp longest) format longest (numbered a) → Sizing (AnyStamp longest) (GoodStamp longest) format longest (numbered b) → a ≡ b
+pub size_once : (format : List ℕ) (longest : ℕ) (a b : Result ℕ Refusal) → Sizing (AnyStamp longest) (GoodStamp longest) format longest (numbered a) → Sizing (AnyStamp longest) (GoodStamp longest) format longest (numbered b) → a ≡ b
 size_once format longest a b s t = one_answer a b (sizing_once format longest (numbered a) (numbered b) s t)
 
 -- "It answers 5 and 2 exactly where 01's sizing order puts them"

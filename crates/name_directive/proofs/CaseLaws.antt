@@ -1,30 +1,19 @@
 -- Case: of a text that is laid byte by byte, and of a zone name.
-use mathlib.Core.Path.{◌≡◌, refl, ap}
+use mathlib.Core.Path.{◌≡◌}
 use mathlib.Core.Bool.{true, false}
-use mathlib.Core.List.{List, [], ◌∷◌, map}
-use Prim.Native.Nat.{ℕ, zero, suc, ◌+◌, ◌<◌}
-use native.Mathlib.Omega.{arith}
-use lib.ListN.{length, get_or, set, take, length-map}
+use mathlib.Core.List.{List, map}
+use Prim.Native.Nat.{ℕ, ◌+◌, ◌<◌}
+use lib.ListN.{length, get_or, set, length-map}
 use Rattle.rules.specs.declared.Flags.{Flags}
 use Rattle.rules.specs.Name.{in_case, zone_case}
+use Rattle.std.proofs.lemmas.List.{get_or-map}
 use Rattle.text.proofs.OverlayLaws.{Laid, laid_more}
 use Rattle.name_directive.specs.Named.{byte_in}
 
 -- ## A text laid over a list byte by byte, each byte through f
 
-map_at : (f : ℕ → ℕ) (t : List ℕ) (j : ℕ) → j < length t → get_or (map f t) j 0 ≡ f (get_or t j 0)
-map_at f [] j h = absurd (omega arith)
-map_at f (b ∷ t) zero h = refl
-map_at f (b ∷ t) (suc j) h = map_at f t j (omega arith)
-
 pub laid_through : (f : ℕ → ℕ) (t : List ℕ) {at : ℕ} {l : List ℕ} {j b : ℕ} {l' : List ℕ} → Laid at (map f t) l j l' → j < length t → b ≡ f (get_or t j 0) → Laid at (map f t) l (j + 1) (set l' (at + j) b)
-laid_through f t {j = j} w h e = rw (e, ← map_at f t j h) (laid_more w (simp length-map h))
-
--- the front of it
-pub map_front : (f : ℕ → ℕ) (k : ℕ) (t : List ℕ) → map f (take k t) ≡ take k (map f t)
-map_front f zero t = refl
-map_front f (suc k) [] = refl
-map_front f (suc k) (b ∷ t) = ap (λ (u : List ℕ). f b ∷ u) (map_front f k t)
+laid_through f t {j = j} w h e = rw (e, ← get_or-map f t j 0 0 h) (laid_more w (simp length-map h))
 
 -- ## A text in a case
 

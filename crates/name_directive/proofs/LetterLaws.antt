@@ -4,6 +4,7 @@ use mathlib.Core.Bool.{Bool, true, false, cond, not, ◌||◌, or_comm}
 use mathlib.Core.Logic.{◌⊎◌, inl, inr}
 use mathlib.Core.List.{List, []}
 use Prim.Native.Nat.{ℕ, ◌≤◌}
+use native.Mathlib.Omega.{arith}
 use lib.Dec.{ltb}
 use lib.ListN.{length}
 use Rattle.rules.specs.declared.Flags.{Flags}
@@ -15,17 +16,15 @@ use Rattle.rules.specs.Name.{day_name, month_name, abbreviated, upper, lower, as
 use Rattle.rules.specs.Record.{all_ok}
 use Rattle.rules.specs.Writing.{name_fields}
 use Rattle.rules.proofs.RecordLaws.{Each, ranges_of}
-use Rattle.names.specs.Calendar.{case_by, unpacked}
-use Rattle.names.proofs.CalendarLaws.{day_spelled, month_spelled}
+use Rattle.names.specs.Calendar.{case_by}
+use Rattle.names.specs.Laws.{days_long, months_long}
+use Rattle.names.proofs.CalendarLaws.{three_long}
 use Rattle.name_directive.specs.Named.{capitals, meridian_text, name_number, Named, letters_of}
 
 -- ## A name that an arm knows
 
 pub known : {A : Type 0} (f : Name → A) {n m : Name} {x : A} → n ≡ m → x ≡ f m → x ≡ f n
 known f e h = h ∙ ap f (sym e)
-
-pub named_as : (k : ℕ) {n m : Name} → n ≡ m → Named n k → Named m k
-named_as k e h = subst (λ (x : Name). Named x k) e h
 
 -- one of the two that share an arm
 pub either_meridian : (capital : Bool) (k : ℕ) {n : Name} → (n ≡ MeridianLower) ⊎ (n ≡ MeridianUpper) → meridian_text capital k ≡ letters_of n capital k
@@ -64,12 +63,10 @@ letters_cased WeekDayNameAbbr f r = raised_by f (abbreviated (day_name r.day_of_
 -- ## Length
 
 pub month_letters : (capital : Bool) {k : ℕ} → (1 ≤ k) × (k ≤ 12) → 3 ≡ length (in_case (case_by capital) (abbreviated (month_name k)))
-unfolding unpacked
-month_letters capital h = ap length (month_spelled capital h.0 h.1 refl).1
+month_letters capital {k} h = sym (three_long (case_by capital) (month_name k) (months_long k h.0 h.1))
 
 pub day_letters : (capital : Bool) {k : ℕ} → k ≤ 6 → 3 ≡ length (in_case (case_by capital) (abbreviated (day_name k)))
-unfolding unpacked
-day_letters capital h = ap length (day_spelled capital h refl).1
+day_letters capital {k} h = sym (three_long (case_by capital) (day_name k) (days_long k (omega arith) h))
 
 two_letters : (am u : Bool) → 2 ≡ length (cond am (cond u (ascii "AM") (ascii "am")) (cond u (ascii "PM") (ascii "pm")))
 two_letters true true = refl
@@ -91,5 +88,7 @@ checked_named MeridianUpper r e = tt
 checked_named WeekDayName r e = e.0
 checked_named WeekDayNameAbbr r e = e.0
 
+-- of which the check held
 pub in_range_named : (n : Name) (r : Record) {ok : Bool} {k : ℕ} → ((zone : List ℕ) → ok ≡ all_ok (name_fields n) r zone) → ok ≡ true → k ≡ name_number n r → Named n k
-in_range_named n r f t e = subst (λ (x : ℕ). Named n x) (sym e) (checked_named n r (ranges_of (name_fields n) r [] (sym (f []) ∙ t)))
+in_range_named n r f t e =
+    subst (λ (x : ℕ). Named n x) (sym e) (checked_named n r (ranges_of (name_fields n) r [] (sym (f []) ∙ t)))

@@ -15,8 +15,9 @@ ghost use Rattle.text.specs.Room.{Room};
 ghost use Rattle.printing.specs.Plain.{plain_piece};
 ghost use Rattle.name_directive.specs.Named.{padding, capitals, name_number, Named, letters_of, byte_in};
 
-use names::calendar;
+use names::calendar::{self, Days, Months, Names};
 use rules::{Fixed, Flag, Flags, Name, Piece, Record};
+use text::Source;
 
 // The pad of `format_string`: none with the left flag.
 fn string_padding(
@@ -38,78 +39,71 @@ fn string_padding(
 }
 
 // Whether the field that a name reads is in its range.
+#[tactic(auto, using(fields::proofs::Laws::alone), unfolding(rules::specs::Writing::name_fields))]
 fn in_range(name: Name, record: Record) -> bool
     ensures { (zone : List ℕ) → result ≡ all_ok (name_fields name) «record» zone }
 {
     match name {
-        Name::MonthName => fields::month(record),
-        Name::MonthNameAbbr => fields::month(record),
-        Name::MeridianLower => fields::hour(record),
-        Name::MeridianUpper => fields::hour(record),
-        Name::WeekDayName => fields::day_of_week(record),
-        Name::WeekDayNameAbbr => fields::day_of_week(record),
+        Name::MonthName | Name::MonthNameAbbr => fields::month(record),
+        Name::MeridianLower | Name::MeridianUpper => fields::hour(record),
+        Name::WeekDayName | Name::WeekDayNameAbbr => fields::day_of_week(record),
     }
 }
 
+#[tactic(auto, unfolding(crate::specs::Named::capitals))]
 fn in_capitals(name: Name, flags: Flags) -> bool
     ensures { result ≡ capitals name flags }
 {
-    let either = flags.has_change_or_upper_case();
     match name {
-        Name::MonthName => either,
-        Name::MonthNameAbbr => either,
-        Name::MeridianLower => either,
         Name::MeridianUpper => !flags.contains(Flag::ChangeCase),
-        Name::WeekDayName => either,
-        Name::WeekDayNameAbbr => either,
+        _ => flags.has_change_or_upper_case(),
     }
 }
 
 // The number of the record that a name goes by.
+#[tactic(auto, unfolding(crate::specs::Named::name_number))]
 fn name_number(name: Name, record: Record) -> u8
     ensures { result ≡ name_number name «record» }
 {
     match name {
-        Name::MonthName => record.month,
-        Name::MonthNameAbbr => record.month,
-        Name::MeridianLower => record.hour,
-        Name::MeridianUpper => record.hour,
-        Name::WeekDayName => record.day_of_week,
-        Name::WeekDayNameAbbr => record.day_of_week,
+        Name::MonthName | Name::MonthNameAbbr => record.month,
+        Name::MeridianLower | Name::MeridianUpper => record.hour,
+        Name::WeekDayName | Name::WeekDayNameAbbr => record.day_of_week,
     }
 }
 
+#[tactic(auto, using(crate::proofs::LetterLaws::month_letters, crate::proofs::LetterLaws::day_letters, crate::proofs::LetterLaws::meridian_letters, rules::proofs::WidthLaws::length_cased), unfolding(crate::specs::Named::letters_of, crate::specs::Named::Named))]
 fn name_length(name: Name, number: u8) -> usize
     requires { Named name number }
     ensures { (capital : Bool) → result ≡ length (letters_of name capital number) }
 {
     match name {
-        Name::MonthName => calendar::month_length(number),
+        Name::MonthName => Months::length(number),
         Name::MonthNameAbbr => 3,
-        Name::MeridianLower => 2,
-        Name::MeridianUpper => 2,
-        Name::WeekDayName => calendar::day_length(number),
+        Name::MeridianLower | Name::MeridianUpper => 2,
+        Name::WeekDayName => Days::length(number),
         Name::WeekDayNameAbbr => 3,
     }
 }
 
+#[tactic(auto, unfolding(crate::specs::Named::Named))]
 fn put_name(out: &mut [u8], at: usize, room: usize, name: Name, number: u8, capital: bool) -> usize
     requires { Room out.old room × Named name number }
     ensures { (limit : ℕ) → Ran limit room (event.write (event.put (letters_of name capital number)) ∷ []) out.old at out.new result }
 {
     match name {
-        Name::MonthName => calendar::put_month(out, at, room, number, capital),
+        Name::MonthName => Months::put(out, at, room, number, capital),
         Name::MonthNameAbbr => {
-            let three = calendar::month_three(number, capital);
-            calendar::put_three(out, at, room, three)
+            let three = Months::three(number, capital);
+            text::put(out, at, room, &three)
         }
         Name::MeridianLower | Name::MeridianUpper => {
             calendar::put_meridian(out, at, room, number, capital)
         }
-        Name::WeekDayName => calendar::put_day(out, at, room, number, capital),
+        Name::WeekDayName => Days::put(out, at, room, number, capital),
         Name::WeekDayNameAbbr => {
-            let three = calendar::day_three(number, capital);
-            calendar::put_three(out, at, room, three)
+            let three = Days::three(number, capital);
+            text::put(out, at, room, &three)
         }
     }
 }
@@ -126,9 +120,8 @@ pub fn name(
     requires { Room out.old room }
     ensures { (zone : List ℕ) → Ran limit room (spec_events (spec.Name name) piece «record» zone) out.old at out.new result }
 {
-    let verdict = fields::verdict(in_range(name, record));
-    if verdict != 0 {
-        return text::judged(at, verdict);
+    if let Err(refusal) = fields::verdict(in_range(name, record)) {
+        return text::refused_at(at, refusal);
     }
     let flags = piece.flags;
     let number = name_number(name, record);
@@ -136,67 +129,55 @@ pub fn name(
     put_name(out, next, room, name, number, in_capitals(name, flags))
 }
 
+// The plain ones have no pad that a limit could refuse: they promise for every limit what the others promise for one.
 pub fn plain_name(out: &mut [u8], at: usize, room: usize, name: Name, record: Record) -> usize
     requires { Room out.old room }
     ensures { (limit : ℕ) (zone : List ℕ) → Ran limit room (spec_events (spec.Name name) (plain_piece (spec.Name name)) «record» zone) out.old at out.new result }
 {
-    let verdict = fields::verdict(in_range(name, record));
-    if verdict != 0 {
-        return text::judged(at, verdict);
+    if let Err(refusal) = fields::verdict(in_range(name, record)) {
+        return text::refused_at(at, refusal);
     }
     let number = name_number(name, record);
     put_name(out, at, room, name, number, in_capitals(name, Flags::new()))
 }
 
-// A capital is below Z and 32 more; any other byte stays.
-#[tactic(auto, unfolding(rules::specs::Name::lower))]
-fn lower(b: u8) -> u8
-    ensures { result ≡ letter.lower b }
-{
-    if b'A' <= b && b <= b'Z' { b + 32 } else { b }
-}
-
-// A small letter is 32 less; any other byte stays.
-#[tactic(auto, unfolding(rules::specs::Name::upper))]
-fn upper(b: u8) -> u8
-    ensures { result ≡ letter.upper b }
-{
-    if b'a' <= b && b <= b'z' { b - 32 } else { b }
-}
-
+#[tactic(auto, unfolding(rules::specs::Name::lower, rules::specs::Name::upper))]
 fn byte_in(b: u8, lowered: bool) -> u8
     ensures { result ≡ byte_in lowered b }
 {
-    if lowered { lower(b) } else { upper(b) }
-}
-
-fn copy_cased(out: &mut [u8], at: usize, src: &[u8], lowered: bool)
-    requires { at + length src.now ≤ length out.old }
-    ensures { out.new ≡ overlay at (map (byte_in lowered) src.now) out.old }
-{
-    let mut i = 0;
-    while i < src.len() {
-        out[at + i] = byte_in(src[i], lowered);
-        i += 1;
+    if lowered {
+        b.to_ascii_lowercase()
+    } else {
+        b.to_ascii_uppercase()
     }
 }
 
-// Each byte in its case. What fits of a text that doesn't is written by a call of itself, as in `text`.
-fn put_cased(out: &mut [u8], at: usize, room: usize, src: &[u8], lowered: bool) -> usize
-    requires { Room out.old room }
-    ensures { (limit : ℕ) → Ran limit room (event.write (event.put (map (byte_in lowered) src.now)) ∷ []) out.old at out.new result }
-{
-    let count = src.len();
-    if text::fits(at, count, out.len()) {
-        copy_cased(out, at, src, lowered);
-        return at + count;
+// A text with each byte in its case.
+#[derive(Clone, Copy)]
+struct Cased<'a> {
+    src: &'a [u8],
+    lowered: bool,
+}
+
+impl<'a> Source for Cased<'a> {
+    ghost bytes = { λ s. map (byte_in s.lowered) s.src.now };
+
+    fn count(self) -> usize {
+        self.src.len()
     }
-    if at < out.len() {
-        let left = out.len() - at;
-        let end = put_cased(out, at, room, &src[..left], lowered);
-        return text::missed(at, count, room);
+
+    fn front(self, count: usize) -> Cased<'a> {
+        Cased {
+            src: &self.src[..count],
+            lowered: self.lowered,
+        }
     }
-    text::missed(at, count, room)
+
+    fn lay(self, out: &mut [u8], at: usize) {
+        for i in 0..self.src.len() {
+            out[at + i] = byte_in(self.src[i], self.lowered);
+        }
+    }
 }
 
 // `#` lowers and wins over `^`, which raises.
@@ -204,13 +185,11 @@ fn put_zone(out: &mut [u8], at: usize, room: usize, zone: &[u8], flags: Flags) -
     requires { Room out.old room }
     ensures { (limit : ℕ) → Ran limit room (event.write (event.put (in_case (zone_case flags) zone.now)) ∷ []) out.old at out.new result }
 {
-    if flags.contains(Flag::ChangeCase) {
-        return put_cased(out, at, room, zone, true);
+    let lowered = flags.contains(Flag::ChangeCase);
+    if lowered || flags.contains(Flag::UpperCase) {
+        return text::put_short(out, at, room, Cased { src: zone, lowered });
     }
-    if flags.contains(Flag::UpperCase) {
-        return put_cased(out, at, room, zone, false);
-    }
-    text::put_slice(out, at, room, zone)
+    text::put(out, at, room, zone)
 }
 
 pub fn zone_name(
@@ -225,7 +204,7 @@ pub fn zone_name(
     ensures { («record» : declared.Record) → Ran limit room (spec_events spec.TimeZoneName piece «record» zone.now) out.old at out.new result }
 {
     let verdict = fields::verdict(fields::time_zone(zone));
-    let judged = text::judged(at, verdict);
+    let judged = text::after_check(at, verdict);
     let length = zone.len();
     if length == 0 {
         return judged;
@@ -240,13 +219,14 @@ pub fn plain_zone_name(out: &mut [u8], at: usize, room: usize, zone: &[u8]) -> u
     ensures { (limit : ℕ) («record» : declared.Record) → Ran limit room (spec_events spec.TimeZoneName (plain_piece spec.TimeZoneName) «record» zone.now) out.old at out.new result }
 {
     let verdict = fields::verdict(fields::time_zone(zone));
-    let judged = text::judged(at, verdict);
+    let judged = text::after_check(at, verdict);
     if zone.len() == 0 {
         return judged;
     }
-    text::put_slice(out, judged, room, zone)
+    text::put(out, judged, room, zone)
 }
 
+#[tactic(auto, unfolding(rules::specs::Writing::fixed_byte))]
 fn fixed_byte(fixed: Fixed) -> u8
     ensures { result ≡ fixed_byte fixed }
 {

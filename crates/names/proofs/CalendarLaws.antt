@@ -1,15 +1,19 @@
--- The rules of the tables of names and of their packed words, in either case: one computed test and one law each.
-use mathlib.Core.Path.{◌≡◌, refl, ap}
-use mathlib.Core.Bool.{Bool, true, false, ◌&&◌}
-use mathlib.Core.List.{List, [], flatten}
-use Prim.Native.Nat.{ℕ, ◌+◌, ◌-◌, ◌≤◌, ◌<◌}
+-- The rules of a table of names, in either case.
+use mathlib.Core.Path.{◌≡◌, refl, sym, ap, ◌∙◌}
+use mathlib.Core.Bool.{Bool, true, false}
+use mathlib.Core.List.{List, [], ◌∷◌, ◌++◌, map, flatten, append-nil}
+use Prim.Native.Nat.{ℕ, zero, suc, ◌+◌, ◌-◌, ◌≤◌, ◌<◌}
+use native.Mathlib.Nat.{not-suc-le-zero, le_of_suc-le-suc}
 use native.Mathlib.Omega.{arith}
-use lib.Dec.{T, leb, leb→le}
 use lib.ListN.{length, get_or, take, drop, length-take, length-drop}
+use Rattle.std.proofs.lemmas.List.{length-append, length-map, length-take-le, take-take, take_all}
+use Rattle.std.proofs.Math.Seq.{take-append_seam, drop-append-add}
+use Rattle.std.specs.List.{take-map, drop-map}
 use Rattle.rules.specs.Ascii.{ascii}
-use Rattle.rules.specs.Name.{day_names, month_names, day_name, month_name, abbreviated, upper, raised, in_case}
-use Rattle.names.specs.Calendar.{case_by, name_start, packed, unpacked, cased_word}
-use Rattle.names.proofs.TestLaws.{and_left, and_right, eqs, eqs→eq, upto, upto_at}
+use Rattle.rules.specs.Name.{day_name, month_name, abbreviated, Case, as_it_is, raised, lowered, upper, lower, in_case}
+use Rattle.rules.proofs.WidthLaws.{length_cased}
+use Rattle.names.specs.Calendar.{case_by, name_start}
+use Rattle.names.specs.Laws.{days_long, months_long}
 
 -- ## The upper twins: each is the upper case of its table, by one computed test
 
@@ -37,81 +41,95 @@ pub record Cut (table : List ℕ) (from end : ℕ) (name : List ℕ) : Type 0 wh
   pub inside : end ≤ length table
   pub part : take (end - from) (drop from table) ≡ name
 
-abbrev cut : List ℕ → ℕ → ℕ → List ℕ → Bool
-cut table from end name = leb from end && (leb end (length table) && eqs (take (end - from) (drop from table)) name)
-
-cut_holds : (table : List ℕ) (from end : ℕ) (name : List ℕ) → T (cut table from end name) → Cut table from end name
-cut_holds table from end name t =
-    let same = eqs (take (end - from) (drop from table)) name in
-    let rest = and_right (leb from end) (leb end (length table) && same) t in
-    record {
-      order = leb→le from end (and_left (leb from end) (leb end (length table) && same) t);
-      inside = leb→le end (length table) (and_left (leb end (length table)) same rest);
-      part = eqs→eq (take (end - from) (drop from table)) name (and_right (leb end (length table)) same rest);
-    }
-
 pub cut_length : {table : List ℕ} {from end : ℕ} {name : List ℕ} → Cut table from end name → end - from ≡ length name
 cut_length w =
     let e = simp (length-take, length-drop) at (ap length w.part) in
     omega (arith, w.order, w.inside)
 
-module _ (names : List (List ℕ)) (u : Bool) where
-  abbrev stands : ℕ → Bool
-  stands k = cut (in_case (case_by u) (flatten names)) (name_start names k) (name_start names (k + 1)) (in_case (case_by u) (get_or names k []))
+-- the names before it stand in front
+later : (x : List ℕ) {table : List ℕ} {from end : ℕ} {name : List ℕ} → Cut table from end name → Cut (x ++ table) (length x + from) (length x + end) name
+later x {table} {from} {end} w =
+    let gap : length x + end - (length x + from) ≡ end - from = omega arith in
+    record {
+      order = omega (arith, w.order);
+      inside = omega (arith, w.inside, length-append x table);
+      part = rw (gap, drop-append-add x table from) w.part;
+    }
 
-  part_of : (n : ℕ) → T (upto stands n) → {k from end : ℕ} {table : List ℕ} → k < n → table ≡ in_case (case_by u) (flatten names) → from ≡ name_start names k → end ≡ name_start names (k + 1) → Cut table from end (in_case (case_by u) (get_or names k []))
-  part_of n test {k} h t f e = rw (t, f, e) (cut_holds _ _ _ _ (upto_at stands n test k h))
+mapped : (f : ℕ → ℕ) {table : List ℕ} {from end : ℕ} {name : List ℕ} → Cut table from end name → Cut (map f table) from end (map f name)
+mapped f {table} {from} {end} w =
+    record {
+      order = w.order;
+      inside = rw (length-map table f) w.inside;
+      part = rw (drop-map f from table, take-map f (end - from) (drop from table)) (ap (map f) w.part);
+    }
 
-days_stand : (u : Bool) → T (upto (stands day_names u) 7)
-unfolding day_names name_start flatten upper in_case
-days_stand true = tt
-days_stand false = tt
+stands : (names : List (List ℕ)) (k : ℕ) → k < length names → Cut (flatten names) (name_start names k) (name_start names (suc k)) (get_or names k [])
+unfolding name_start flatten
+stands [] k h = absurd (not-suc-le-zero h)
+stands (x ∷ xs) zero h =
+    let whole : length (x ++ []) ≡ length x = ap length (append-nil x) in
+    let gap : length (x ++ []) - 0 ≡ length x = omega (arith, whole) in
+    record {
+      order = omega arith;
+      inside = omega (arith, whole, length-append x (flatten xs));
+      part = rw gap (take-append_seam x (flatten xs));
+    }
+stands (x ∷ xs) (suc k) h = rw (length-append x (flatten (take k xs)), length-append x (flatten (take (suc k) xs))) (later x (stands xs k (le_of_suc-le-suc h)))
 
-months_stand : (u : Bool) → T (upto (stands month_names u) 12)
-unfolding month_names name_start flatten upper in_case
-months_stand true = tt
-months_stand false = tt
+-- and in the case that is asked for
+cased : (c : Case) {table : List ℕ} {from end : ℕ} {name : List ℕ} → Cut table from end name → Cut (in_case c table) from end (in_case c name)
+unfolding in_case
+cased as_it_is w = w
+cased raised {table} {from} {end} w = mapped upper w
+cased lowered w = mapped lower w
 
-pub day_part : (u : Bool) {day from end : ℕ} {table : List ℕ} → day ≤ 6 → table ≡ in_case (case_by u) (flatten day_names) → from ≡ name_start day_names day → end ≡ name_start day_names (day + 1) → Cut table from end (in_case (case_by u) (day_name day))
-unfolding day_name
-day_part u h t f e = part_of day_names u 7 (days_stand u) (omega arith) t f e
+pub part_of : (names : List (List ℕ)) (name : ℕ → List ℕ) {first last : ℕ} → last < first + length names → ((n : ℕ) → name n ≡ get_or names (n - first) []) → (c : Case) {number from end : ℕ} {table : List ℕ} → first ≤ number → number ≤ last → table ≡ in_case c (flatten names) → from ≡ name_start names (number - first) → end ≡ name_start names (number + 1 - first) → Cut table from end (in_case c (name number))
+part_of names name {first} counted numbered c {number} l h t f e =
+    let next : number + 1 - first ≡ suc (number - first) = omega (arith, l) in
+    rw (t, f, e, next, numbered number) (cased c (stands names (number - first) (omega (arith, l, h, counted))))
 
-pub month_part : (u : Bool) {month from end : ℕ} {table : List ℕ} → 1 ≤ month → month ≤ 12 → table ≡ in_case (case_by u) (flatten month_names) → from ≡ name_start month_names (month - 1) → end ≡ name_start month_names (month + 1 - 1) → Cut table from end (in_case (case_by u) (month_name month))
-unfolding month_name
-month_part u {month} l h t f e =
-    let next : month + 1 - 1 ≡ month - 1 + 1 = omega arith in
-    part_of month_names u 12 (months_stand u) (omega arith) t f (rw next at e)
+-- ## The first three letters of a name
 
--- ## Packed words: each spells the first three letters of its name
+firsts : (t : List ℕ) (from : ℕ) → from + 3 ≤ length t → get_or t from 0 ∷ get_or t (from + 1) 0 ∷ get_or t (from + 2) 0 ∷ [] ≡ take 3 (drop from t)
+firsts [] from h = absurd (omega (arith, h))
+firsts (x ∷ []) zero h = absurd (omega (arith, h))
+firsts (x ∷ y ∷ []) zero h = absurd (omega (arith, h))
+firsts (x ∷ y ∷ z ∷ t) zero h = refl
+firsts (x ∷ t) (suc k) h =
+    let one : suc k + 1 ≡ suc (k + 1) = omega arith in
+    let two : suc k + 2 ≡ suc (k + 2) = omega arith in
+    rw (one, two) (firsts t k (omega (arith, h)))
 
-module _ (names : List (List ℕ)) (u : Bool) where
-  abbrev spells : ℕ → Bool
-  spells k =
-      leb 2105344 (packed (abbreviated (get_or names k [])))
-      && eqs (unpacked (cased_word u (packed (abbreviated (get_or names k []))))) (in_case (case_by u) (abbreviated (get_or names k [])))
+take_cased : (c : Case) (t : List ℕ) → take 3 (in_case c t) ≡ in_case c (take 3 t)
+unfolding in_case
+take_cased as_it_is t = refl
+take_cased raised t = take-map upper 3 t
+take_cased lowered t = take-map lower 3 t
 
-  spelled : (n : ℕ) → T (upto spells n) → {k word : ℕ} → k < n → word ≡ packed (abbreviated (get_or names k [])) → (2105344 ≤ word) × (unpacked (cased_word u word) ≡ in_case (case_by u) (abbreviated (get_or names k [])))
-  spelled n test {k} h w =
-      let name = abbreviated (get_or names k []) in
-      let large = leb 2105344 (packed name) in
-      let same = eqs (unpacked (cased_word u (packed name))) (in_case (case_by u) name) in
-      let t = upto_at spells n test k h in
-      rw w (leb→le 2105344 (packed name) (and_left large same t), eqs→eq _ _ (and_right large same t))
+-- of a name that stands in its table
+module _ (c : Case) (name : List ℕ) {table : List ℕ} {from end : ℕ} (w : Cut table from end (in_case c name)) (h : 3 ≤ length name) where
+  pub room_for_three : from + 3 ≤ length table
+  room_for_three = omega (arith, w.order, w.inside, cut_length w, length_cased c name, h)
 
-days_spell : (u : Bool) → T (upto (spells day_names u) 7)
-unfolding day_names packed unpacked cased_word upper in_case
-days_spell true = tt
-days_spell false = tt
+  pub first_three : get_or table from 0 ∷ get_or table (from + 1) 0 ∷ get_or table (from + 2) 0 ∷ [] ≡ in_case c (abbreviated name)
+  first_three =
+      firsts table from room_for_three
+      ∙ sym (take-take 3 (end - from) (drop from table) (omega (arith, cut_length w, length_cased c name, h)))
+      ∙ ap (take 3) w.part
+      ∙ take_cased c name
 
-months_spell : (u : Bool) → T (upto (spells month_names u) 12)
-unfolding month_names packed unpacked cased_word upper in_case
-months_spell true = tt
-months_spell false = tt
+-- and of three letters alone
+pub three_long : (c : Case) (name : List ℕ) → 3 ≤ length name → length (in_case c (abbreviated name)) ≡ 3
+three_long c name h = length_cased c (take 3 name) ∙ length-take-le 3 name h
 
-pub day_spelled : (u : Bool) {day word : ℕ} → day ≤ 6 → word ≡ packed (abbreviated (day_name day)) → (2105344 ≤ word) × (unpacked (cased_word u word) ≡ in_case (case_by u) (abbreviated (day_name day)))
-unfolding day_name
-day_spelled u h w = spelled day_names u 7 (days_spell u) (omega arith) w
+by_letters : (c : Case) (name : List ℕ) {t : List ℕ} → 3 ≤ length name → t ≡ in_case c (abbreviated name) → get_or t 0 0 ∷ get_or t 1 0 ∷ get_or t 2 0 ∷ [] ≡ in_case c (abbreviated name)
+by_letters c name {t} h e =
+    let long = ap length e ∙ three_long c name h in
+    firsts t 0 (omega (arith, long)) ∙ take_all 3 t (omega (arith, long)) ∙ e
 
-pub month_spelled : (u : Bool) {month word : ℕ} → 1 ≤ month → month ≤ 12 → word ≡ packed (abbreviated (month_name month)) → (2105344 ≤ word) × (unpacked (cased_word u word) ≡ in_case (case_by u) (abbreviated (month_name month)))
-unfolding month_name
-month_spelled u l h w = spelled month_names u 12 (months_spell u) (omega arith) w
+pub day_letters : (u : Bool) {day : ℕ} {t : List ℕ} → day ≤ 6 → t ≡ in_case (case_by u) (abbreviated (day_name day)) → get_or t 0 0 ∷ get_or t 1 0 ∷ get_or t 2 0 ∷ [] ≡ in_case (case_by u) (abbreviated (day_name day))
+day_letters u {day} h e = by_letters (case_by u) (day_name day) (days_long day (omega arith) h) e
+
+pub month_letters : (u : Bool) {month : ℕ} {t : List ℕ} → 1 ≤ month → month ≤ 12 → t ≡ in_case (case_by u) (abbreviated (month_name month)) → get_or t 0 0 ∷ get_or t 1 0 ∷ get_or t 2 0 ∷ [] ≡ in_case (case_by u) (abbreviated (month_name month))
+month_letters u {month} l h e = by_letters (case_by u) (month_name month) (months_long month l h) e

@@ -1,2 +1,2 @@
 pub mod CalendarLaws
-pub mod TestLaws
+pub mod TableLaws

@@ -1,12 +1,14 @@
-// The names of days and months: flat tables with the places of the names, their upper twins, and the first three letters of each name in a number.
-ghost use Rattle.std.specs.Prelude.{◌≡◌, cond, ℕ, ◌-◌, ◌≤◌, length};
-ghost use mathlib.Core.List.{[], ◌∷◌, flatten};
+// The names of days and months: flat tables with the places of the names, and their upper twins.
+ghost use Rattle.std.specs.Prelude.{◌≡◌, Bool, cond, ℕ, ◌+◌, ◌-◌, ◌≤◌, ◌<◌, length, get_or};
+ghost use mathlib.Core.List.{List, [], ◌∷◌, flatten};
 ghost use Rattle.rules.specs.Ascii.{ascii};
 ghost use Rattle.rules.specs.Event as event;
 ghost use Rattle.rules.specs.Name.{day_names, month_names, day_name, month_name, abbreviated, raised, in_case, before12};
 ghost use Rattle.text.specs.Ran.{Ran};
 ghost use Rattle.text.specs.Room.{Room};
-ghost use Rattle.names.specs.Calendar.{case_by, name_start, packed, unpacked, cased_word};
+ghost use Rattle.std.proofs.Common.{rules};
+ghost use Rattle.names.specs.Laws.{days_counted, months_counted, days_numbered, months_numbered, days_long, months_long};
+ghost use Rattle.names.specs.Calendar.{case_by, name_start};
 
 use text::{put, put_part};
 
@@ -25,156 +27,163 @@ const DAY_STARTS: [u8; 8] = [0, 6, 12, 19, 28, 36, 42, 50];
 
 const MONTH_STARTS: [u8; 13] = [0, 7, 15, 20, 25, 28, 32, 36, 42, 51, 58, 66, 74];
 
-fn day_start(day: u8) -> u8
-    requires { day ≤ 7 }
-    ensures { result ≡ name_start day_names day }
-{
-    DAY_STARTS[day as usize]
-}
+// A table of names, those of the numbers `first` to `last`.
+pub trait Names<const SIZE: usize> {
+    ghost names: { List (List ℕ) };
 
-fn month_start(month: u8) -> u8
-    requires { (1 ≤ month) × (month ≤ 13) }
-    ensures { result ≡ name_start month_names (month - 1) }
-{
-    MONTH_STARTS[month as usize - 1]
-}
+    ghost first: { ℕ };
 
-pub fn day_length(day: u8) -> usize
-    requires { day ≤ 6 }
-    ensures { result ≡ length (day_name day) }
-{
-    (day_start(day + 1) - day_start(day)) as usize
-}
+    ghost last: { ℕ };
 
-pub fn month_length(month: u8) -> usize
-    requires { (1 ≤ month) × (month ≤ 12) }
-    ensures { result ≡ length (month_name month) }
-{
-    (month_start(month + 1) - month_start(month)) as usize
-}
+    ghost name: { ℕ → List ℕ };
 
-// The names one after the other, and the twin, in which each byte is the upper case of the other's: what assert_to_ascii_uppercase asserts (`days_raised`, `months_raised`).
-fn days() -> [u8; 50]
-    ensures { result ≡ flatten day_names }
-{
-    DAYS
-}
+    // The names one after the other, and the twin, in which each byte is the upper case of the other's: what assert_to_ascii_uppercase asserts (`days_raised`, `months_raised`).
+    fn table() -> [u8; SIZE]
+        ensures { result ≡ flatten names };
 
-fn days_upper() -> [u8; 50]
-    ensures { result ≡ in_case raised (flatten day_names) }
-{
-    DAYS_UPPER
-}
+    fn upper_table() -> [u8; SIZE]
+        ensures { result ≡ in_case raised (flatten names) };
 
-fn months() -> [u8; 74]
-    ensures { result ≡ flatten month_names }
-{
-    MONTHS
-}
+    // A byte of either table. Read from the table that `table` gives, the first three letters take 1.03 of the instructions of a stamp.
+    fn letter(place: usize, upper: bool) -> u8
+        requires { place < length (flatten names) }
+        ensures { result ≡ get_or (in_case (case_by upper) (flatten names)) place 0 };
 
-fn months_upper() -> [u8; 74]
-    ensures { result ≡ in_case raised (flatten month_names) }
-{
-    MONTHS_UPPER
-}
+    // Where a name starts in its table, and behind the last one where the table ends.
+    fn start(number: u8) -> u8
+        requires { (first ≤ number) × (number ≤ last + 1) }
+        ensures { result ≡ name_start names (number - first) };
 
-// Each branch binds its own table: one that a value chooses is built byte by byte.
-pub fn put_day(out: &mut [u8], at: usize, room: usize, day: u8, upper: bool) -> usize
-    requires { Room out.old room × (day ≤ 6) }
-    ensures { (limit : ℕ) → Ran limit room (event.write (event.put (in_case (case_by upper) (day_name day))) ∷ []) out.old at out.new result }
-{
-    let from = day_start(day) as usize;
-    let end = day_start(day + 1) as usize;
-    if upper {
-        let table = days_upper();
-        put_part(out, at, room, &table, from, end)
-    } else {
-        let table = days();
-        put_part(out, at, room, &table, from, end)
+    ghost short: { SIZE < 256 };
+
+    ghost few: { last < 255 };
+
+    ghost counted: { last < first + length names };
+
+    ghost numbered: { (n : ℕ) → name n ≡ get_or names (n - first) [] };
+
+    ghost long: { (n : ℕ) → first ≤ n → n ≤ last → 3 ≤ length (name n) };
+
+    final fn length(number: u8) -> usize
+        requires { (first ≤ number) × (number ≤ last) }
+        ensures { result ≡ length (name number) }
+    {
+        (Self::start(number + 1) - Self::start(number)) as usize
+    }
+
+    // Each branch binds its own table: one that a value chooses is built byte by byte.
+    final fn put(out: &mut [u8], at: usize, room: usize, number: u8, upper: bool) -> usize
+        requires { Room out.old room × (first ≤ number) × (number ≤ last) }
+        ensures { (limit : ℕ) → Ran limit room (event.write (event.put (in_case (case_by upper) (name number))) ∷ []) out.old at out.new result }
+    {
+        let from = Self::start(number) as usize;
+        let end = Self::start(number + 1) as usize;
+        if upper {
+            let table = Self::upper_table();
+            put_part(out, at, room, &table, from, end)
+        } else {
+            let table = Self::table();
+            put_part(out, at, room, &table, from, end)
+        }
+    }
+
+    // The first three letters.
+    final fn three(number: u8, upper: bool) -> [u8; 3]
+        requires { (first ≤ number) × (number ≤ last) }
+        ensures { result ≡ in_case (case_by upper) (abbreviated (name number)) }
+    {
+        let from = Self::start(number) as usize;
+        [
+            Self::letter(from, upper),
+            Self::letter(from + 1, upper),
+            Self::letter(from + 2, upper),
+        ]
     }
 }
 
-pub fn put_month(out: &mut [u8], at: usize, room: usize, month: u8, upper: bool) -> usize
-    requires { Room out.old room × (1 ≤ month) × (month ≤ 12) }
-    ensures { (limit : ℕ) → Ran limit room (event.write (event.put (in_case (case_by upper) (month_name month))) ∷ []) out.old at out.new result }
-{
-    let from = month_start(month) as usize;
-    let end = month_start(month + 1) as usize;
-    if upper {
-        let table = months_upper();
-        put_part(out, at, room, &table, from, end)
-    } else {
-        let table = months();
-        put_part(out, at, room, &table, from, end)
+// Sunday is day 0, January month 1.
+pub struct Days;
+
+impl Names<50> for Days {
+    ghost names = { day_names };
+
+    ghost first = { 0 };
+
+    ghost last = { 6 };
+
+    ghost name = { day_name };
+
+    ghost short = { Prim.search rules };
+
+    ghost few = { Prim.search rules };
+
+    ghost counted = { days_counted };
+
+    ghost numbered = { days_numbered };
+
+    ghost long = { days_long };
+
+    fn table() -> [u8; 50] {
+        DAYS
+    }
+
+    fn upper_table() -> [u8; 50] {
+        DAYS_UPPER
+    }
+
+    fn letter(place: usize, upper: bool) -> u8 {
+        if upper {
+            DAYS_UPPER[place]
+        } else {
+            DAYS[place]
+        }
+    }
+
+    fn start(day: u8) -> u8 {
+        DAY_STARTS[day as usize]
     }
 }
 
-// The first three letters of a name.
-#[derive(Clone, Copy)]
-pub struct Three(pub u8, pub u8, pub u8);
+pub struct Months;
 
-// The three letters as one number, the first in the lowest byte. A constant is laid down anew at each use: these are short, DAYS and MONTHS are not.
-const DAY_WORDS: [u32; 7] = [
-    0x6e7553, 0x6e6f4d, 0x657554, 0x646557, 0x756854, 0x697246, 0x746153,
-];
+impl Names<74> for Months {
+    ghost names = { month_names };
 
-const MONTH_WORDS: [u32; 12] = [
-    0x6e614a, 0x626546, 0x72614d, 0x727041, 0x79614d, 0x6e754a, 0x6c754a, 0x677541, 0x706553,
-    0x74634f, 0x766f4e, 0x636544,
-];
+    ghost first = { 1 };
 
-fn day_word(day: u8) -> u32
-    requires { day ≤ 6 }
-    ensures { result ≡ packed (abbreviated (day_name day)) }
-{
-    DAY_WORDS[day as usize]
-}
+    ghost last = { 12 };
 
-fn month_word(month: u8) -> u32
-    requires { (1 ≤ month) × (month ≤ 12) }
-    ensures { result ≡ packed (abbreviated (month_name month)) }
-{
-    MONTH_WORDS[month as usize - 1]
-}
+    ghost name = { month_name };
 
-// The second and the third letter are small ones, and 0x20 less is the capital.
-fn cased_word(word: u32, upper: bool) -> u32
-    requires { 2105344 ≤ word }
-    ensures { result ≡ cased_word upper word }
-{
-    if upper { word - 0x202000 } else { word }
-}
+    ghost short = { Prim.search rules };
 
-fn letters(word: u32) -> Three
-    ensures { result.0 ∷ result.1 ∷ result.2 ∷ [] ≡ unpacked word }
-{
-    Three(
-        (word % 256) as u8,
-        (word / 256 % 256) as u8,
-        (word / 65536 % 256) as u8,
-    )
-}
+    ghost few = { Prim.search rules };
 
-pub fn day_three(day: u8, upper: bool) -> Three
-    requires { day ≤ 6 }
-    ensures { result.0 ∷ result.1 ∷ result.2 ∷ [] ≡ in_case (case_by upper) (abbreviated (day_name day)) }
-{
-    letters(cased_word(day_word(day), upper))
-}
+    ghost counted = { months_counted };
 
-pub fn month_three(month: u8, upper: bool) -> Three
-    requires { (1 ≤ month) × (month ≤ 12) }
-    ensures { result.0 ∷ result.1 ∷ result.2 ∷ [] ≡ in_case (case_by upper) (abbreviated (month_name month)) }
-{
-    letters(cased_word(month_word(month), upper))
-}
+    ghost numbered = { months_numbered };
 
-pub fn put_three(out: &mut [u8], at: usize, room: usize, three: Three) -> usize
-    requires { Room out.old room }
-    ensures { (limit : ℕ) → Ran limit room (event.write (event.put (three.0 ∷ three.1 ∷ three.2 ∷ [])) ∷ []) out.old at out.new result }
-{
-    let text = [three.0, three.1, three.2];
-    put(out, at, room, &text)
+    ghost long = { months_long };
+
+    fn table() -> [u8; 74] {
+        MONTHS
+    }
+
+    fn upper_table() -> [u8; 74] {
+        MONTHS_UPPER
+    }
+
+    fn letter(place: usize, upper: bool) -> u8 {
+        if upper {
+            MONTHS_UPPER[place]
+        } else {
+            MONTHS[place]
+        }
+    }
+
+    fn start(month: u8) -> u8 {
+        MONTH_STARTS[month as usize - 1]
+    }
 }
 
 // Before noon, or from noon on.

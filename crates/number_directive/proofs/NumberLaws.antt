@@ -1,4 +1,5 @@
 -- The runs of a number directive, from the runs of its pad and its text, and of its check where a field is out of range.
+use Rattle.std.specs.Prelude.{Err}
 use mathlib.Core.Path.{◌≡◌, refl, ap}
 use mathlib.Core.Bool.{Bool, true, false, not}
 use mathlib.Core.List.{List, [], ◌∷◌, map}
@@ -13,13 +14,15 @@ use Rattle.rules.specs.declared.Padding.TheVariants.{Left, Spaces, Zeros}
 use Rattle.rules.specs.declared.Piece.{Piece}
 use Rattle.rules.specs.declared.Record.{Record}
 use Rattle.rules.specs.declared.Spec.TheVariants.{Number as number}
+use Rattle.rules.specs.declared.Refusal.{Refusal}
+use Rattle.rules.specs.Refusal.{number_of, number_in_check}
 use Rattle.rules.specs.Event.{put, pad, write, judged}
 use Rattle.rules.specs.Decimal.{Fill, zeros, fill_byte, filled}
-use Rattle.rules.specs.Writing.{width_or, default_width, value_of, number_writes, fields_of, lead_of, body_of, verdict as verdictBy, spec_events}
+use Rattle.rules.specs.Writing.{width_or, default_width, value_of, number_writes, fields_of, lead_of, body_of, verdict, spec_events}
 use Rattle.rules.proofs.DecimalLaws.{filled_plain, length_decimal_from}
 use Rattle.text.specs.Ran.{Ran}
 use Rattle.text.proofs.RanLaws.{◌then◌, same_events, said, pad_none}
-use Rattle.text.proofs.JudgedLaws.{verdict_held, passes, stops}
+use Rattle.text.proofs.JudgedLaws.{Check, passes, stops}
 use Rattle.printing.specs.FillWith.{fill_with}
 use Rattle.values.specs.declared.Value.{Value}
 use Rattle.values.specs.Value.{fill_by, ValueIs}
@@ -63,7 +66,7 @@ as_read fill width v f w = said (ap (filled fill width) (to_z-of_z w64 v f)) w
 
 -- ## The directive
 
-module _ (n : Number) (p : Piece) (r : Record) (zone : List ℕ) {value : Value} {verdict : ℕ} (is : ValueIs n r value) (judges : verdict ≡ verdictBy value.ok) where
+module _ (n : Number) (p : Piece) (r : Record) (zone : List ℕ) {value : Value} (is : ValueIs n r value) where
   body : value.ok ≡ true → {left : Bool} {fill : Fill} {width : ℕ} {v : ℤ} → p.flags.left ≡ left → fill ≡ fill_by value.space p.padding → width ≡ width_or p.width value.width → v ≡ value.number
       → map write (number_writes left fill width v) ≡ map write (body_of (number n) p r zone)
   unfolding body_of
@@ -71,11 +74,11 @@ module _ (n : Number) (p : Piece) (r : Record) (zone : List ℕ) {value : Value}
       let d : width_or p.width value.width ≡ width_or p.width (default_width n (value_of n r)) = ap (width_or p.width) (is.width t) in
       cc (is.fill p.padding, is.number t)
 
-  pub number_held : verdict ≡ 0 → {left : Bool} {fill : Fill} {width : ℕ} {v : ℤ} → p.flags.left ≡ left → fill ≡ fill_by value.space p.padding → width ≡ width_or p.width value.width → v ≡ value.number
+  pub number_held : value.ok ≡ true → {left : Bool} {fill : Fill} {width : ℕ} {v : ℤ} → p.flags.left ≡ left → fill ≡ fill_by value.space p.padding → width ≡ width_or p.width value.width → v ≡ value.number
       → {limit room : ℕ} {l l' : List ℕ} {a b : ℕ} → Ran limit room (map write (number_writes left fill width v)) l a l' b → Ran limit room (spec_events (number n) p r zone) l a l' b
   unfolding spec_events lead_of fields_of
-  number_held z e f w x v = passes (number n) r zone (is.ok zone) judges z (same_events (body (verdict_held value.ok judges z) e f w x) v)
+  number_held t e f w x v = passes (number n) r zone (is.ok zone) t (same_events (body t e f w x) v)
 
-  pub number_failed : (verdict ≡ 0 → ⊥) → {limit room : ℕ} {l : List ℕ} {a b : ℕ} → Ran limit room (judged verdict ∷ []) l a l b → Ran limit room (spec_events (number n) p r zone) l a l b
+  pub number_failed : {c : Check} {e : Refusal} → number_in_check c ≡ verdict value.ok → c ≡ Err e → {limit room : ℕ} {l : List ℕ} {a b : ℕ} → Ran limit room (judged (number_of e) ∷ []) l a l b → Ran limit room (spec_events (number n) p r zone) l a l b
   unfolding spec_events lead_of fields_of
-  number_failed h w = stops (number n) r zone (is.ok zone) judges h w
+  number_failed f g w = stops (number n) r zone (is.ok zone) f g w

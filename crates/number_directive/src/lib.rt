@@ -58,21 +58,18 @@ pub fn number(
     ensures { (zone : List ℕ) → Ran limit room (spec_events (spec.Number number) piece «record» zone) out.old at out.new result }
 {
     let value = values::value_of(number, record);
-    let verdict = fields::verdict(value.ok);
-    if verdict != 0 {
-        return text::judged(at, verdict);
+    if let Err(refusal) = fields::verdict(value.ok) {
+        return text::refused_at(at, refusal);
     }
-    let flags = piece.flags;
-    if flags.contains(Flag::LeftPadding) {
+    if piece.flags.contains(Flag::LeftPadding) {
         return printing::put_decimal(out, at, room, value.number, 1, true);
     }
-    let given = piece.width;
-    let padding = piece.padding;
-    let width = printing::width_or(given, value.width);
-    let zeros = fills_zeros(padding, value.space);
+    let width = piece.width.unwrap_or(value.width);
+    let zeros = fills_zeros(piece.padding, value.space);
     format_num(out, at, room, limit, value.number, width, zeros)
 }
 
+#[tactic(auto, unfolding(rules::specs::Writing::fraction_digits))]
 pub fn fraction_digits(fraction: Fraction) -> usize
     ensures { result ≡ fraction_digits fraction }
 {
@@ -114,6 +111,6 @@ pub fn fraction(
     ensures { (fraction : declared.Fraction) (zone : List ℕ) → Ran limit room (event.judged (verdict_of (spec.Fraction fraction) «record» zone) ∷ map event.write (fraction_writes width «record».nanoseconds)) out.old at out.new result }
 {
     let verdict = fields::verdict(fields::nanoseconds(record));
-    let next = text::judged(at, verdict);
+    let next = text::after_check(at, verdict);
     format_nanoseconds(out, next, room, limit, width, record.nanoseconds)
 }

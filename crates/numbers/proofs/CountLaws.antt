@@ -1,22 +1,16 @@
--- The number of digits, from a power of ten that a number has reached and one that it has not.
+-- Powers of ten, and the number of digits from the last one that a number has reached.
 use Rattle.std.specs.Prelude.{◌≡◌, ℕ, suc, ◌+◌, ◌*◌, ◌^◌, ◌<◌, ◌≤◌}
-use mathlib.Core.Path.{sym, ap, ◌∙◌}
 use native.Mathlib.Omega.{arith}
-use native.Mathlib.Nat.{pow-suc}
-use lib.Pow.{pow-add}
+use native.Mathlib.Nat.{pow-suc, pow-le-pow_right}
+use lib.Dec.{lit<}
 use Rattle.rules.specs.Decimal.{digit_count}
-use Rattle.rules.proofs.DecimalLaws.{count_le, count_is}
+use Rattle.rules.proofs.DecimalLaws.{count_is, count_small}
 
-pub count_64 : (n : ℕ) → n < 2 ^ 64 → digit_count n ≤ 20
-count_64 n h = count_le 19 n (omega arith)
+pub power_fits : (k : ℕ) → k ≤ 9 → 10 ^ k < 2 ^ 32
+power_fits k h = let p : 10 ^ k ≤ 10 ^ 9 = pow-le-pow_right (lit< tt) h in omega arith
 
-module _ (n power k : ℕ) (e : power ≡ 10 ^ k) where
-  pub none_reached : k < digit_count n → n < power * 10 → k + 1 + 0 ≡ digit_count n
-  none_reached h u =
-      let q : n < 10 ^ suc k = omega (arith, pow-suc 10 k) in
-      omega (arith, count_le k n q)
+pub zero_counted : (n : ℕ) → n ≡ 0 → 1 ≡ digit_count n
+zero_counted n h = omega (arith, count_small n (omega arith))
 
-  pub some_reached : (j : ℕ) → power * 10 ^ j ≤ n → n < power * 10 ^ j * 10 → k + 1 + j ≡ digit_count n
-  some_reached j l u =
-      let a : 10 ^ (k + j) ≡ power * 10 ^ j = pow-add 10 k j ∙ ap (λ (p : ℕ). p * 10 ^ j) (sym e) in
-      omega (arith, count_is (k + j) n (omega arith) (omega (arith, pow-suc 10 (k + j))))
+pub counted : (n k : ℕ) → 10 ^ k ≤ n → n < 10 * 10 ^ k → k + 1 ≡ digit_count n
+counted n k l u = let q : n < 10 ^ suc k = omega (arith, pow-suc 10 k) in omega (arith, count_is k n l q)

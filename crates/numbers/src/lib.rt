@@ -3,7 +3,7 @@
 
 mod pairs;
 
-ghost use Rattle.std.specs.Prelude.{◌≡◌, ℕ, ◌+◌, ◌-◌, ◌*◌, ◌/◌, ◌%◌, ◌^◌, ◌<◌, ◌≤◌, [], ◌∷◌, ◌++◌, length, take, drop, replicate, pos, unsigned_abs};
+ghost use Rattle.std.specs.Prelude.{◌≡◌, ℕ, ℤ, ◌+◌, ◌-◌, ◌*◌, ◌/◌, ◌%◌, ◌^◌, ◌<◌, ◌≤◌, [], ◌∷◌, ◌++◌, length, take, drop, replicate, pos, unsigned_abs};
 ghost use Rattle.std.specs.Int.Signed.{mag};
 ghost use Rattle.rules.specs.Decimal.{digit_count, places, two, decimal_text, spaces, filled, floor_div, floor_mod};
 
@@ -16,42 +16,70 @@ pub fn magnitude(x: i64) -> u64
     if x < 0 { (-1 - x) as u64 } else { x as u64 }
 }
 
-pub fn unsigned_abs64(x: i64) -> u64
-    ensures { result ≡ unsigned_abs x }
-{
-    let m = magnitude(x);
-    if x < 0 { m + 1 } else { m }
-}
-
 pub fn unsigned_abs(x: i32) -> u32
     ensures { result ≡ unsigned_abs x }
 {
-    unsigned_abs64(x as i64) as u32
+    x.unsigned_abs()
 }
 
 pub fn div_euclid_100(y: i32) -> i32
     ensures { result ≡ floor_div y 100 }
 {
-    let q = y / 100;
-    if y % 100 < 0 { q - 1 } else { q }
+    y.div_euclid(100)
 }
 
-pub fn rem_euclid_100(y: i32) -> u8
-    ensures { result ≡ floor_mod y 100 }
-{
-    let r = y % 100;
-    if r < 0 { (r + 100) as u8 } else { r as u8 }
+// An integer type whose numbers an i64 holds, and the number that a value of it is.
+pub trait Integer: Into<i64> {
+    ghost number: { Self → ℤ };
+
+    ghost converted: { (x : Self) (z : ℤ) → Self.converts x z → z ≡ number x };
 }
 
-// The same of an ISO year, which is one beyond the i32 years at each end.
-pub fn rem_euclid_100_wide(y: i64) -> u8
-    ensures { result ≡ floor_mod y 100 }
-{
-    let rest = y % 100;
-    if rest < 0 {
-        (rest + 100) as u8
-    } else {
-        rest as u8
+impl Integer for u8 {
+    ghost number = { λ n. pos n };
+
+    ghost converted = { λ _ _ h. h };
+}
+
+impl Integer for u16 {
+    ghost number = { λ n. pos n };
+
+    ghost converted = { λ _ _ h. h };
+}
+
+impl Integer for i32 {
+    ghost number = { λ z. z };
+
+    ghost converted = { λ _ _ h. h };
+}
+
+impl Integer for i64 {
+    ghost number = { λ z. z };
+
+    ghost converted = { λ _ _ h. h };
+}
+
+// A year: a record's is an i32, an ISO year, which is one beyond those at each end, an i64. Each is divided in its own type.
+pub trait Year {
+    ghost number: { Self → ℤ };
+
+    fn rem_euclid_100(self) -> u8
+        ensures { result ≡ floor_mod (number self) 100 };
+}
+
+impl Year for i32 {
+    ghost number = { λ y. y };
+
+    fn rem_euclid_100(self) -> u8 {
+        i32::rem_euclid(self, 100) as u8
+    }
+}
+
+impl Year for i64 {
+    ghost number = { λ y. y };
+
+    fn rem_euclid_100(self) -> u8 {
+        i64::rem_euclid(self, 100) as u8
     }
 }
 
@@ -91,57 +119,23 @@ pub fn spaced_digits(v: u8) -> TwoDigits
     }
 }
 
+#[tactic(auto, using(crate::proofs::CountLaws::power_fits))]
 pub fn power(k: usize) -> u32
     requires { k ≤ 9 }
     ensures { result ≡ 10 ^ k }
 {
-    match k {
-        0 => 1,
-        1 => 10,
-        2 => 100,
-        3 => 1000,
-        4 => 10000,
-        5 => 100000,
-        6 => 1000000,
-        7 => 10000000,
-        8 => 100000000,
-        _ => 1000000000,
-    }
+    10u32.pow(k as u32)
 }
 
-// How many of the next four powers of ten v has reached.
-fn powers_reached(v: u64, power: u64) -> usize
-    requires { (power ≤ 10 ^ 15) × (v < power * 100000) }
-    ensures { (k : ℕ) → power ≡ 10 ^ k → k < digit_count v → k + 1 + result ≡ digit_count v }
-{
-    if v < power * 10 {
-        0
-    } else if v < power * 100 {
-        1
-    } else if v < power * 1000 {
-        2
-    } else if v < power * 10000 {
-        3
-    } else {
-        4
-    }
-}
-
+#[tactic(auto, using(crate::proofs::CountLaws::zero_counted, crate::proofs::CountLaws::counted))]
 pub fn digit_count(v: u64) -> usize
     ensures { result ≡ digit_count v }
 {
-    if v < 100000 {
-        1 + powers_reached(v, 1)
-    } else if v < 10000000000 {
-        6 + powers_reached(v, 100000)
-    } else if v < 1000000000000000 {
-        11 + powers_reached(v, 10000000000)
-    } else {
-        16 + powers_reached(v, 1000000000000000)
-    }
+    if v == 0 { 1 } else { v.ilog10() as usize + 1 }
 }
 
 // The last `count` digits of v at `at`, with zeros in front where v has fewer.
+// From the last pair to the first, by hand: a chain of reversed steps of two is no plainer, and what is left of v goes along.
 pub fn write_places(out: &mut [u8], at: usize, count: usize, v: u64)
     requires { at + count ≤ length out.old }
     ensures { out.new ≡ take at out.old ++ (places count v ++ drop (at + count) out.old) }
@@ -161,6 +155,7 @@ pub fn write_places(out: &mut [u8], at: usize, count: usize, v: u64)
     out[at] = 48 + (n % 10) as u8;
 }
 
+// A form that 01 names (docs/DECISIONS.md).
 #[derive(Clone, Copy)]
 pub struct Decimal {
     pub bytes: [u8; 20],
@@ -172,7 +167,7 @@ pub fn decimal_text(v: i64) -> Decimal
     ensures text { result.bytes ≡ decimal_text v ++ replicate (20 - result.count) 0 }
     ensures count { result.count ≡ length (decimal_text v) }
 {
-    let size = unsigned_abs64(v);
+    let size = v.unsigned_abs();
     let n = digit_count(size);
     let mut bytes = [0u8; 20];
     let mut sign = 0;

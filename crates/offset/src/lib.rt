@@ -54,7 +54,7 @@ fn compute_offset_parts(utc_offset: i32, is_utc: bool, left: bool) -> UtcOffset
     }
 }
 
-// The sign is the highest bit.
+// The sign is the highest bit: 01 asks that it is read from the bits.
 fn is_sign_negative(hour: f64) -> bool
     requires { T (not (is_nan hour)) }
     ensures { result ≡ is_sign_negative hour }

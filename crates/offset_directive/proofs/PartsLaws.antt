@@ -1,6 +1,6 @@
 -- From the parts to the offset, and from its writes to the events of the directive.
 use mathlib.Core.Path.{◌≡◌, refl, sym, ap, ◌∙◌, subst}
-use mathlib.Core.Bool.{Bool, true, not}
+use mathlib.Core.Bool.{Bool, true, false, not}
 use mathlib.Core.List.{List, ◌∷◌, map}
 use Prim.Native.Nat.{ℕ}
 use native.Mathlib.Omega.{arith}
@@ -14,7 +14,7 @@ use Rattle.rules.specs.declared.Spec.TheVariants.{Offset as offset}
 use Rattle.rules.specs.Record.{all_ok}
 use Rattle.rules.specs.Decimal.{Fill}
 use Rattle.rules.specs.Event.{Event, write, check}
-use Rattle.rules.specs.Offset.{Form, hh, hhmm, hh:mm, hh:mm:ss, hours_of, minutes_of, seconds_of, minus, extra, form_of, length_of_form, parts_of, offset_writes}
+use Rattle.rules.specs.Offset.{Form, hh, hhmm, hh:mm, hh:mm:ss, hours_of, minutes_of, seconds_of, minus, extra, form_of, parts_of, offset_writes}
 use Rattle.rules.specs.Writing.{width_or, zeros_unless, fields_of, lead_of, body_of, verdict, verdict_of, spec_events}
 use Rattle.rules.proofs.WidthLaws.{extra_small}
 use Rattle.offset.specs.declared.OffsetParts.{OffsetParts}
@@ -45,9 +45,9 @@ module _ (z : ℤ) (utc left : Bool) {p : OffsetParts} (is : p ≡ parts_for z u
   unfolding parts_for
   place_is = subst (λ (q : OffsetParts). q.extra ≡ extra q.minus q.hours) (sym is) refl
 
-  pub length_is : (o : Offset) {n : ℕ} → ((x : ℤ) → p.minute ≡ minutes_of x → p.second ≡ seconds_of x → n ≡ length_of_form (form_of o x)) → n ≡ length_of_form (form_of o z)
+  pub form_is : (o : Offset) {form : Form} → ((x : ℤ) → p.minute ≡ minutes_of x → p.second ≡ seconds_of x → form ≡ form_of o x) → form ≡ form_of o z
   unfolding parts_for
-  length_is o f = f z (ap (λ (q : OffsetParts). q.minute) is) (ap (λ (q : OffsetParts). q.second) is)
+  form_is o f = f z (ap (λ (q : OffsetParts). q.minute) is) (ap (λ (q : OffsetParts). q.second) is)
 
   writes_are : (form : Form) (fill : Fill) (width : ℕ) → parts_writes form fill width p ≡ offset_writes form fill width (minus left utc z) z
   unfolding parts_writes offset_writes parts_for
@@ -62,6 +62,11 @@ fill_is : (p : Padding) → fill_with (not (is_spaces p)) ≡ zeros_unless p
 fill_is Left = refl
 fill_is Spaces = refl
 fill_is Zeros = refl
+
+pub not_spaces : (p : Padding) → (p ≡ Spaces → ⊥) → false ≡ is_spaces p
+not_spaces Left h = refl
+not_spaces Spaces h = absurd (h refl)
+not_spaces Zeros h = refl
 
 -- the writes of an offset, by what a piece and a record say of them
 abbrev pub writes_by : Offset → Bool → ℕ → Bool → Bool → ℤ → List Event

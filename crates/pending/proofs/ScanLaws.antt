@@ -2,24 +2,14 @@
 use mathlib.Core.Path.{◌≡◌, refl, ap, ◌∙◌}
 use mathlib.Core.Bool.{Bool, true, false, cond}
 use mathlib.Core.List.{List, [], ◌∷◌}
-use Prim.Native.Nat.{ℕ, suc, ◌-◌, ◌≤◌, ◌<◌}
+use Prim.Native.Nat.{ℕ, suc, ◌-◌, ◌≤◌}
 use native.Mathlib.Omega.{arith}
 use lib.Dec.{eqb}
 use lib.ListN.{length, drop, length-drop, drop_of_length-le}
 use lib.Seq.{drop-drop}
 use Rattle.rules.specs.Format.{between, fresh, step, after}
 use Rattle.rules.specs.Runs.{pending_of}
-use Rattle.rules.proofs.PendingEcho.{Passes, Pends}
 use Rattle.reading.specs.Literals.{literal_count, literal_end}
-use Rattle.pending.specs.Settled.{Settled}
-
--- ## At a percent sign
-
-pub settled_at : {text : List ℕ} {i next : ℕ} → i < next → next ≤ length text → Passes text i next → Settled text i next
-settled_at h g p = record { onward = omega arith; within = g; passes = λ k. p; pends = λ e. absurd (omega arith) }
-
-pub pending_at : {text : List ℕ} {i : ℕ} → i < length text → Pends text i → Settled text i i
-pending_at h p = record { onward = omega arith; within = omega arith; passes = λ k. absurd (omega arith); pends = λ e. p }
 
 -- ## Literal bytes
 
@@ -40,12 +30,6 @@ pub record Scanned (text : List ℕ) (i : ℕ) : Type 0 where
   pub state : after between text ≡ after between (drop i text)
 
 module _ {text : List ℕ} where
-  pub scan_start : Scanned text 0
-  scan_start = record { within = omega arith; state = refl }
-
-  pub scan_item : {i next : ℕ} → Scanned text i → Settled text i next → (next ≡ i → ⊥) → Scanned text next
-  scan_item w v h = record { within = v.within; state = w.state ∙ v.passes (omega (arith, v.onward)) }
-
   pub scan_literals : {i e : ℕ} → Scanned text i → e ≡ literal_end text i → e ≤ length text → Scanned text e
   scan_literals {i} w k h =
       record { within = h; state = w.state ∙ literals_pass (drop i text) ∙ rw (k, drop-drop (literal_count (drop i text)) i text) }
@@ -55,9 +39,6 @@ module _ {text : List ℕ} where
   ends {i} w p =
       let e : length (pending_of (after between text)) ≡ length text - i = ap (λ s. length (pending_of s)) w.state ∙ ap length p ∙ length-drop i text in
       omega (arith, w.within)
-
-  pub scan_pends : {i next : ℕ} → Scanned text i → Settled text i next → next ≡ i → i ≡ length text - length (pending_of (after between text))
-  scan_pends w v e = ends w (v.pends e)
 
   pub scan_end : {i : ℕ} → Scanned text i → length text ≤ i → i ≡ length text - length (pending_of (after between text))
   unfolding after

@@ -15,50 +15,33 @@ use rules::Parsed;
 fn waits(b: u8) -> bool
     ensures { result ≡ waits b }
 {
-    if b < b'0' {
-        return false;
-    }
-    if b <= b':' {
-        return true;
-    }
-    if b == b'E' {
-        return true;
-    }
-    b == b'O'
+    matches!(b, b'0'..=b':' | b'E' | b'O')
 }
 
-// Where what starts at the percent sign at `i` ends, or `i` itself if more bytes could still be part of it.
-fn settled_end(text: &[u8], i: usize) -> usize
+// Where what starts at the percent sign at `i` ends, unless more bytes could still be part of it.
+fn settled_end(text: &[u8], i: usize) -> Option<usize>
     requires { (i < length text.now) × (get_or text.now i 0 ≡ 37) }
     ensures { Settled text.now i result }
 {
-    let parsed = parse_spec(text, i + 1);
-    let Parsed::Directive(_, next) = parsed else {
-        let Parsed::Echo(end) = parsed else {
-            return i;
-        };
-        if end == text.len() {
-            if waits(text[end - 1]) {
-                return i;
-            }
-        }
-        return end;
-    };
-    next
+    match parse_spec(text, i + 1) {
+        Parsed::Directive(_, next) => Some(next),
+        Parsed::Echo(end) if end == text.len() && waits(text[end - 1]) => None,
+        Parsed::Echo(end) => Some(end),
+        Parsed::Cut => None,
+    }
 }
 
-// Where what is pending after all of the text starts: the text's end if nothing is.
+// Where what is pending after all of the text starts: the text's end if nothing is. The position goes on by what was read: no iterator counts it.
 pub fn pending_from(text: &[u8]) -> usize
     ensures { result ≡ length text.now - length (pending_of (after between text.now)) }
 {
     let mut i = 0;
     while i < text.len() {
         if text[i] == b'%' {
-            let next = settled_end(text, i);
-            if next == i {
+            let Some(end) = settled_end(text, i) else {
                 return i;
-            }
-            i = next;
+            };
+            i = end;
         } else {
             i = literal_end(text, i);
         }

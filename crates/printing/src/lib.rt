@@ -4,54 +4,21 @@
 ghost use Rattle.std.specs.Prelude.{◌≡◌, ℕ, ◌-◌, ◌<◌, [], ◌∷◌, length};
 ghost use Rattle.rules.specs.Event as event;
 ghost use Rattle.rules.specs.Decimal.{places, zeros, fill_byte, filled};
-ghost use Rattle.rules.specs.Writing.{width_or, pad_byte, pad_to, year_width, year_text};
+ghost use Rattle.rules.specs.Writing.{pad_byte, pad_to, year_width, year_text};
 ghost use Rattle.text.specs.Ran.{Ran};
 ghost use Rattle.text.specs.Room.{Room};
 ghost use Rattle.printing.specs.FillWith.{fill_with};
 
-use rules::{Padding, Piece, Width};
-
-pub fn saturating_sub(a: usize, b: usize) -> usize
-    ensures { result ≡ a - b }
-{
-    if b < a { a - b } else { 0 }
-}
-
-pub fn width_or(width: Width, default: usize) -> usize
-    ensures { result ≡ width_or width default }
-{
-    match width {
-        Width::Unset => default,
-        Width::Of(given) => given,
-    }
-}
+use rules::{Padding, Piece};
+use text::{Places, Run};
 
 fn pad_byte(padding: Padding) -> u8
     ensures { result ≡ pad_byte padding }
 {
     match padding {
-        Padding::Left => b' ',
-        Padding::Spaces => b' ',
+        Padding::Left | Padding::Spaces => b' ',
         Padding::Zeros => b'0',
     }
-}
-
-// Few bytes that were just written, one by one: a copy in greater pieces would wait for them.
-fn put_few(out: &mut [u8], at: usize, room: usize, src: &[u8]) -> usize
-    requires { Room out.old room }
-    ensures { (limit : ℕ) → Ran limit room (event.write (event.put src.now) ∷ []) out.old at out.new result }
-{
-    if at < out.len() {
-        let left = out.len() - at;
-        let mut i = 0;
-        while i < src.len() {
-            if i < left {
-                out[at + i] = src[i];
-            }
-            i += 1;
-        }
-    }
-    text::missed(at, src.len(), room)
 }
 
 pub fn fill_byte(zeros: bool) -> u8
@@ -77,19 +44,24 @@ pub fn put_decimal(
     let count = decimal.count;
     let bytes = decimal.bytes;
     if width <= count {
-        return put_few(out, at, room, &bytes[..count]);
+        return text::put(out, at, room, &bytes[..count]);
     }
     let fill = width - count;
     if zeros && v < 0 {
         let next = text::put(out, at, room, b"-");
-        let first = text::run_short(out, next, room, b'0', fill);
-        return put_few(out, first, room, &bytes[1..count]);
+        let zeros = Run {
+            byte: b'0',
+            count: fill,
+        };
+        let first = text::put_short(out, next, room, zeros);
+        return text::put(out, first, room, &bytes[1..count]);
     }
-    let first = text::run_short(out, at, room, fill_byte(zeros), fill);
-    put_few(out, first, room, &bytes[..count])
+    let byte = fill_byte(zeros);
+    let first = text::put_short(out, at, room, Run { byte, count: fill });
+    text::put(out, first, room, &bytes[..count])
 }
 
-// Four digits, with one test of the room.
+// Four digits, with one test of the room, stored by hand as in `text::put_two`.
 pub fn put_four(out: &mut [u8], at: usize, room: usize, v: u32) -> usize
     requires { Room out.old room × (v < 10000) }
     ensures { (limit : ℕ) → Ran limit room (event.write (event.put (places 4 v)) ∷ []) out.old at out.new result }
@@ -103,7 +75,8 @@ pub fn put_four(out: &mut [u8], at: usize, room: usize, v: u32) -> usize
         out[at + 3] = numbers::ones(back);
         return at + 4;
     }
-    text::places_short(out, at, room, 4, v as u64)
+    let v = v as u64;
+    text::put_short(out, at, room, Places { count: 4, v })
 }
 
 pub fn year_width(year: i64) -> usize
@@ -129,7 +102,7 @@ pub fn year_length(year: i32, least: usize) -> usize
 {
     let mut none = [0u8; 0];
     let length = put_decimal(&mut none, 0, rules::LONGEST_BUFFER, year as i64, 0, true);
-    if length < least { least } else { length }
+    length.max(least)
 }
 
 // A pad from a text of `length` bytes to the width.
@@ -145,7 +118,7 @@ pub fn put_padding(
     requires { Room out.old room }
     ensures { Ran limit room (event.write (event.pad byte (width - length)) ∷ []) out.old at out.new result }
 {
-    text::pad(out, at, room, limit, byte, saturating_sub(width, length))
+    text::pad(out, at, room, limit, byte, width.saturating_sub(length))
 }
 
 pub fn write_padding(
@@ -167,7 +140,7 @@ pub fn write_padding(
         room,
         limit,
         pad_byte(padding),
-        width_or(width, 0),
+        width.unwrap_or(0),
         length,
     )
 }

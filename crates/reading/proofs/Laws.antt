@@ -1,4 +1,5 @@
 -- The outcomes of a turn, each by the tests that lead to it, and what the parser makes of them at a position.
+use Rattle.std.specs.Prelude.{Option, Some, None}
 use mathlib.Core.Path.{◌≡◌, refl, ◌∙◌}
 use mathlib.Core.Bool.{Bool, true, false, cond}
 use mathlib.Core.List.{List, ◌∷◌}
@@ -8,13 +9,10 @@ use native.Mathlib.Omega.{arith}
 use lib.ListN.{length, get_or, drop, drop_of_length-le}
 use lib.Seq.{drop-cons}
 use borrow.Author.Tests.{eq-eqb, ne_eqb, le-leb, lt-leb}
+use Rattle.rules.specs.declared.Spec.{Spec}
 use Rattle.rules.specs.declared.Options.{Options}
-use Rattle.rules.specs.declared.Width.{Width}
-use Rattle.rules.specs.declared.Width.TheVariants.{Unset, Of}
 use Rattle.rules.specs.declared.Modifier.{Modifier}
 use Rattle.rules.specs.declared.Modifier.TheVariants.{E, O}
-use Rattle.rules.specs.declared.Entry.{Entry}
-use Rattle.rules.specs.declared.Entry.TheVariants.{Is, Missing}
 use Rattle.rules.specs.declared.Reading.{Reading}
 use Rattle.rules.specs.declared.Reading.TheVariants.{InFlags, InWidth, AtModifier, InColons}
 use Rattle.rules.specs.declared.Turn.{Turn}
@@ -23,8 +21,6 @@ use Rattle.rules.specs.declared.Parsed.TheVariants.{Echo, Cut}
 use Rattle.rules.specs.Reading.{on_flag, is_digit, digit_of, width_with, too_wide, member, modified, spec_of, on_entry, on_letter, on_colons, turn, open?}
 use Rattle.rules.specs.Format.{parse_from}
 use Rattle.rules.proofs.RecordLaws.{ends}
-use Rattle.reading.specs.declared.FlagStep.{FlagStep}
-use Rattle.reading.specs.declared.FlagStep.TheVariants.{Flag, NoFlag}
 use Rattle.reading.specs.Stages.{flag_turn, entered, colon_entry, turned}
 
 module _ (format : List ℕ) (at : ℕ) where
@@ -44,24 +40,24 @@ module _ (format : List ℕ) (at : ℕ) where
   same_turn t t' e = rw e
 
   -- an entry of the table, where it is what the turn finds
-  pub by_entry : (o : Options) (w : Width) (skipped : Bool) (e e' : Entry) → e ≡ e' → (t : Turn) → on_entry o w skipped e' ≡ t → entered o w skipped e (at + 1) ≡ turned format at t
+  pub by_entry : (o : Options) (w : Option ℕ) (skipped : Bool) (e e' : Option Spec) → e ≡ e' → (t : Turn) → on_entry o w skipped e' ≡ t → entered o w skipped e (at + 1) ≡ turned format at t
   by_entry o w skipped e e' k t h = rw (k, ← h) (go e')
     where
-      go : (x : Entry) → entered o w skipped x (at + 1) ≡ turned format at (on_entry o w skipped x)
-      go (Is s) = refl
-      go Missing = refl
+      go : (x : Option Spec) → entered o w skipped x (at + 1) ≡ turned format at (on_entry o w skipped x)
+      go (Some s) = refl
+      go None = refl
 
-entry_cond : (o : Options) (w : Width) (skipped t : Bool) (x y : Entry) → on_entry o w skipped (cond t x y) ≡ cond t (on_entry o w skipped x) (on_entry o w skipped y)
+entry_cond : (o : Options) (w : Option ℕ) (skipped t : Bool) (x y : Option Spec) → on_entry o w skipped (cond t x y) ≡ cond t (on_entry o w skipped x) (on_entry o w skipped y)
 entry_cond o w skipped true x y = refl
 entry_cond o w skipped false x y = refl
 
 module _ (o : Options) (b : ℕ) where
-  module _ (s : FlagStep) (says : (other : Turn) → flag_turn s other ≡ on_flag o b other) where
-    pub flags_flag : (n : Options) → s ≡ Flag n → More (InFlags n) ≡ turn (InFlags o) b
+  module _ (s : Option Options) (says : (other : Turn) → flag_turn s other ≡ on_flag o b other) where
+    pub flags_flag : (n : Options) → s ≡ Some n → More (InFlags n) ≡ turn (InFlags o) b
     unfolding turn
-    flags_flag n e = rw e at (says (cond (is_digit b) (More (InWidth o (digit_of b))) (on_letter o Unset b)))
+    flags_flag n e = rw e at (says (cond (is_digit b) (More (InWidth o (digit_of b))) (on_letter o None b)))
 
-    module _ (e : s ≡ NoFlag) where
+    module _ (e : s ≡ None) where
       flags_other : (other : Turn) → other ≡ on_flag o b other
       flags_other other = rw e at (says other)
 
@@ -72,9 +68,9 @@ module _ (o : Options) (b : ℕ) where
           let q : v ≡ b - 48 = k ∙ omega arith in
           rw (d, q) (flags_other (More (InWidth o (digit_of b))))
 
-      pub flags_letter : is_digit b ≡ false → on_letter o Unset b ≡ turn (InFlags o) b
+      pub flags_letter : is_digit b ≡ false → on_letter o None b ≡ turn (InFlags o) b
       unfolding turn
-      flags_letter d = rw d (flags_other (on_letter o Unset b))
+      flags_letter d = rw d (flags_other (on_letter o None b))
 
   module _ (v : ℕ) where
     pub width_digit : is_digit b ≡ true → (n : ℕ) → n ≡ width_with v b → More (InWidth o n) ≡ turn (InWidth o v) b
@@ -86,11 +82,11 @@ module _ (o : Options) (b : ℕ) where
       unfolding turn
       width_wide e = rw (d, e)
 
-      pub width_letter : too_wide v ≡ false → on_letter o (Of v) b ≡ turn (InWidth o v) b
+      pub width_letter : too_wide v ≡ false → on_letter o (Some v) b ≡ turn (InWidth o v) b
       unfolding turn
       width_letter e = rw (d, e)
 
-  module _ (w : Width) where
+  module _ (w : Option ℕ) where
     module _ (m : Modifier) where
       pub modifier_skipped : member b (modified m) ≡ true → on_entry o w true (spec_of b) ≡ turn (AtModifier o w m) b
       unfolding turn

@@ -1,11 +1,9 @@
 -- What each answer inside the parser stands for, in the rules' turns.
-use Rattle.std.specs.Prelude.{Bool, cond, List, ℕ, ◌+◌, eqb, drop}
+use Rattle.std.specs.Prelude.{Bool, cond, List, ℕ, ◌+◌, eqb, drop, Option, Some, None}
+use Rattle.rules.specs.declared.Spec.{Spec}
 use Rattle.rules.specs.declared.Options.{Options}
-use Rattle.rules.specs.declared.Width.{Width}
 use Rattle.rules.specs.declared.Offset.TheVariants.{TimeZoneOffsetHourMinuteColon, TimeZoneOffsetHourMinuteSecondColon, TimeZoneOffsetColonMinimal}
 use Rattle.rules.specs.declared.Spec.TheVariants.{Offset as offset}
-use Rattle.rules.specs.declared.Entry.{Entry}
-use Rattle.rules.specs.declared.Entry.TheVariants.{Is, Missing}
 use Rattle.rules.specs.declared.Reading.TheVariants.{InFlags}
 use Rattle.rules.specs.declared.Turn.{Turn}
 use Rattle.rules.specs.declared.Turn.TheVariants.{More}
@@ -13,26 +11,24 @@ use Rattle.rules.specs.declared.Parsed.{Parsed}
 use Rattle.rules.specs.declared.Parsed.TheVariants.{Directive, Echo}
 use Rattle.rules.specs.Reading.{piece_of}
 use Rattle.rules.specs.Format.{parsed_by, parse_from}
-use Rattle.reading.specs.declared.FlagStep.{FlagStep}
-use Rattle.reading.specs.declared.FlagStep.TheVariants.{Flag, NoFlag}
 
 -- a flag, or else what is read of the byte
-abbrev pub flag_turn : FlagStep → Turn → Turn
-flag_turn (Flag o) other = More (InFlags o)
-flag_turn NoFlag other = other
+abbrev pub flag_turn : Option Options → Turn → Turn
+flag_turn (Some o) other = More (InFlags o)
+flag_turn None other = other
 
 -- an entry of the table as a directive that ends before `next`, or as an echo up to there
-abbrev pub entered : Options → Width → Bool → Entry → ℕ → Parsed
-entered o w skipped (Is s) next = Directive (piece_of o w skipped s) next
-entered o w skipped Missing next = Echo next
+abbrev pub entered : Options → Option ℕ → Bool → Option Spec → ℕ → Parsed
+entered o w skipped (Some s) next = Directive (piece_of o w skipped s) next
+entered o w skipped None next = Echo next
 
 -- the offset form of a count of colons
-unfoldable pub colon_entry : ℕ → Entry
+unfoldable pub colon_entry : ℕ → Option Spec
 colon_entry colons =
-    cond (eqb colons 1) (Is (offset TimeZoneOffsetHourMinuteColon))
-    (cond (eqb colons 2) (Is (offset TimeZoneOffsetHourMinuteSecondColon))
-    (cond (eqb colons 3) (Is (offset TimeZoneOffsetColonMinimal))
-    Missing))
+    cond (eqb colons 1) (Some (offset TimeZoneOffsetHourMinuteColon))
+    (cond (eqb colons 2) (Some (offset TimeZoneOffsetHourMinuteSecondColon))
+    (cond (eqb colons 3) (Some (offset TimeZoneOffsetColonMinimal))
+    None))
 
 -- the format from `at` on, where the turn of its byte there is known
 abbrev pub turned : List ℕ → ℕ → Turn → Parsed

@@ -1,4 +1,5 @@
 -- What the promises of the two entries of a counter say of their answers.
+use Rattle.std.specs.Prelude.{Result, Ok, Err}
 use mathlib.Core.Path.{◌≡◌, refl, sym, ap, ◌∙◌, subst}
 use mathlib.Core.Bool.{Bool}
 use mathlib.Core.List.{List}
@@ -11,12 +12,9 @@ use borrow.Author.Tests.{le-leb}
 use lib.Dec.{T, le→leb, lit<}
 use lib.IntN.{ℤ, pos, negsuc, ◌+ℤ◌, ◌*ℤ◌, +ℤ-neg_ℤ_cancel}
 use lib.Signed.{mag, nat_abs-le}
+use Rattle.rules.specs.declared.Refusal.{Refusal}
 use Rattle.rules.specs.declared.Record.{Record}
 use Rattle.rules.specs.declared.Spec.{Spec}
-use Rattle.rules.specs.declared.Dated.{Dated}
-use Rattle.rules.specs.declared.Dated.TheVariants as of-dated
-use Rattle.rules.specs.declared.Counted.{Counted}
-use Rattle.rules.specs.declared.Counted.TheVariants as of-counted
 use Rattle.rules.specs.Refusal.{refusal_at}
 use Rattle.rules.specs.Record.{Field, InI32, InI64, month, day, hour, minute, second, nanoseconds, weekday, day_of_year, zone_name, zone_ok, within, ok_field, InRange}
 use Rattle.rules.specs.Decimal.{floor_div}
@@ -35,21 +33,21 @@ use Rattle.rules.proofs.Dates.{day_is, date_unique}
 -- ## Any two answers are equal
 
 -- an answer is known by its number and value
-dated_from : Reply Record → Dated
-dated_from r = elim r.value [ some v ↦ of-dated.Made v | none ↦ of-dated.Refused (refusal_at r.number) ]
+dated_from : Reply Record → Result Record Refusal
+dated_from r = elim r.value [ some v ↦ Ok v | none ↦ Err (refusal_at r.number) ]
 
-dated_back : (a : Dated) → dated_from (dated_reply a) ≡ a
+dated_back : (a : Result Record Refusal) → dated_from (dated_reply a) ≡ a
 unfolding dated_from dated_reply
-dated_back (of-dated.Made r) = refl
-dated_back (of-dated.Refused e) = ap of-dated.Refused (refusal_at_lem e).1
+dated_back (Ok r) = refl
+dated_back (Err e) = ap Err (refusal_at_lem e).1
 
-counted_from : Reply ℤ → Counted
-counted_from r = elim r.value [ some v ↦ of-counted.Count v | none ↦ of-counted.Refused (refusal_at r.number) ]
+counted_from : Reply ℤ → Result ℤ Refusal
+counted_from r = elim r.value [ some v ↦ Ok v | none ↦ Err (refusal_at r.number) ]
 
-counted_back : (a : Counted) → counted_from (counted_reply a) ≡ a
+counted_back : (a : Result ℤ Refusal) → counted_from (counted_reply a) ≡ a
 unfolding counted_from counted_reply
-counted_back (of-counted.Count c) = refl
-counted_back (of-counted.Refused e) = ap of-counted.Refused (refusal_at_lem e).1
+counted_back (Ok c) = refl
+counted_back (Err e) = ap Err (refusal_at_lem e).1
 
 same_record : (r s : Record) → r.year ≡ s.year → r.month ≡ s.month → r.day ≡ s.day → r.hour ≡ s.hour → r.minute ≡ s.minute → r.second ≡ s.second →
     r.nanoseconds ≡ s.nanoseconds → r.day_of_week ≡ s.day_of_week → r.day_of_year ≡ s.day_of_year → r.to_int ≡ s.to_int →
@@ -111,7 +109,7 @@ module _ (count offset : ℤ) (nanos : ℕ) (utc : Bool) where
   same_dated a b (made h f g p) (year_leaves k w s) = absurd (not_both _ _ _ _ g p w s)
   same_dated a b (made h f g p) (made k f' g' q) = ap (λ (r : Record). record { number = 0; value = some r }) (record_unique _ _ p q)
 
-  pub dated_once : (a b : Dated) → DatedBy count offset nanos utc (dated_reply a) → DatedBy count offset nanos utc (dated_reply b) → a ≡ b
+  pub dated_once : (a b : Result Record Refusal) → DatedBy count offset nanos utc (dated_reply a) → DatedBy count offset nanos utc (dated_reply b) → a ≡ b
   dated_once a b p q = sym (dated_back a) ∙ ap dated_from (same_dated _ _ p q) ∙ dated_back b
 
 pub same_counted : (r : Record) (a b : Reply ℤ) → CountedBy r a → CountedBy r b → a ≡ b
@@ -120,7 +118,7 @@ same_counted r a b (invalid f) (counted w) = absurd (f w)
 same_counted r a b (counted v) (invalid g) = absurd (g v)
 same_counted r a b (counted v) (counted w) = refl
 
-pub counted_once : (r : Record) (a b : Counted) → CountedBy r (counted_reply a) → CountedBy r (counted_reply b) → a ≡ b
+pub counted_once : (r : Record) (a b : Result ℤ Refusal) → CountedBy r (counted_reply a) → CountedBy r (counted_reply b) → a ≡ b
 counted_once r a b p q = sym (counted_back a) ∙ ap counted_from (same_counted r _ _ p q) ∙ counted_back b
 
 -- ## The way in
@@ -149,7 +147,7 @@ module _ {count offset : ℤ} {nanos : ℕ} {utc : Bool} where
       never (inr (y, m, d, w, s)) = absurd (not_both count offset nanos utc r y m d g p w s)
 
 -- every record made: its fields by `RecordFor`, among them "second at most 59", "weekday and day of year agree with its date", "to_int is the count"
-module _ {count offset : ℤ} {nanos : ℕ} {utc : Bool} (r : Record) (made-r : DatedBy count offset nanos utc (dated_reply (of-dated.Made r))) where
+module _ {count offset : ℤ} {nanos : ℕ} {utc : Bool} (r : Record) (made-r : DatedBy count offset nanos utc (dated_reply (Ok r))) where
   pub made_record : RecordFor count offset nanos utc r × (nanos ≤ 999999999)
   unfolding dated_reply
   made_record = go made-r
@@ -194,13 +192,13 @@ module _ {count offset : ℤ} {nanos : ℕ} {utc : Bool} (r : Record) (made-r : 
 -- ## The way back
 
 -- "To the record and back is the same count."
-pub round_trip : {count offset : ℤ} {nanos : ℕ} {utc : Bool} (r : Record) (a : Counted) → DatedBy count offset nanos utc (dated_reply (of-dated.Made r)) → CountedBy r (counted_reply a) → a ≡ of-counted.Count count
+pub round_trip : {count offset : ℤ} {nanos : ℕ} {utc : Bool} (r : Record) (a : Result ℤ Refusal) → DatedBy count offset nanos utc (dated_reply (Ok r)) → CountedBy r (counted_reply a) → a ≡ Ok count
 unfolding count_of counted_reply
 round_trip {count} {offset} r a d c =
     let p = (made_record r d).0 in
     let l : day_number r.year r.month r.day *ℤ pos 86400 +ℤ pos (seconds_of r) ≡ count +ℤ offset = rw (p.date.number, p.time) (sym (div_mod (count +ℤ offset) 86400 (lit< tt))) in
     let e : count_of r ≡ count = rw (l, p.utc_offset) (+ℤ-neg_ℤ_cancel count offset) in
-    counted_once r a (of-counted.Count count) c (subst (λ (z : ℤ). CountedBy r (record { number = 0; value = some z })) e (counted (record { date = p.date.exists; clock = p.clock })))
+    counted_once r a (Ok count) c (subst (λ (z : ℤ). CountedBy r (record { number = 0; value = some z })) e (counted (record { date = p.date.exists; clock = p.clock })))
 
 -- 1 exactly for "a date that doesn't exist, one of these out of range or second 60"
 abbrev pub Uncountable : Record → Type 0

@@ -1,5 +1,6 @@
 -- An echo that ends where the bytes so far end is pending exactly if its last byte is `:`, `E`, `O` or a digit; and by positions: where what is
 -- pending starts.
+use Rattle.std.specs.Prelude.{Option, Some, None}
 use mathlib.Core.Path.{◌≡◌, refl, sym, ap, ◌∙◌}
 use mathlib.Core.Bool.{Bool, true, false, cond, ◌||◌}
 use mathlib.Core.List.{List, [], ◌∷◌, ◌++◌}
@@ -10,13 +11,10 @@ use lib.Dec.{eqb, leb}
 use lib.ListN.{length, take, drop, get_or, length-drop}
 use lib.Seq.{drop-cons, drop-drop, take-suc, take_all, get_or-drop}
 use borrow.Author.Tests.{eqb-true}
+use Rattle.rules.specs.declared.Spec.{Spec}
 use Rattle.rules.specs.declared.Options.{Options}
-use Rattle.rules.specs.declared.Width.{Width}
-use Rattle.rules.specs.declared.Width.TheVariants.{Unset, Of}
 use Rattle.rules.specs.declared.Modifier.{Modifier}
 use Rattle.rules.specs.declared.Modifier.TheVariants.{E, O}
-use Rattle.rules.specs.declared.Entry.{Entry}
-use Rattle.rules.specs.declared.Entry.TheVariants.{Is, Missing}
 use Rattle.rules.specs.declared.Reading.{Reading}
 use Rattle.rules.specs.declared.Reading.TheVariants.{InFlags, InWidth, AtModifier, InColons}
 use Rattle.rules.specs.declared.Turn.{Turn}
@@ -66,11 +64,11 @@ module _ (b : ℕ) where
   unfolding waits
   waits_none d c e o = rw (d, c, e, o)
 
-  tells_entry : (o : Options) (w : Width) (skipped : Bool) (x : Entry) → waits b ≡ false → Tells b (on_entry o w skipped x)
-  tells_entry o w skipped (Is s) h = tt
-  tells_entry o w skipped Missing h = h
+  tells_entry : (o : Options) (w : Option ℕ) (skipped : Bool) (x : Option Spec) → waits b ≡ false → Tells b (on_entry o w skipped x)
+  tells_entry o w skipped (Some s) h = tt
+  tells_entry o w skipped None h = h
 
-  tells_letter : (o : Options) (w : Width) → is_digit b ≡ false → Tells b (on_letter o w b)
+  tells_letter : (o : Options) (w : Option ℕ) → is_digit b ≡ false → Tells b (on_letter o w b)
   unfolding on_letter
   tells_letter o w d =
       either (Tells b) (eqb b (byte ":")) (λ c q. waits_colon d c)
@@ -109,7 +107,7 @@ module _ (b : ℕ) where
   tables_quiet E = (refl, (refl, (refl, (refl, (refl, (refl, tt))))))
   tables_quiet O = (refl, (refl, (refl, (refl, (refl, (refl, (refl, (refl, (refl, (refl, (refl, (refl, (refl, (refl, (refl, tt)))))))))))))))
 
-  tells_colons : (o : Options) (w : Width) (colons : ℕ) → waits b ≡ false → Tells b (on_colons o w colons)
+  tells_colons : (o : Options) (w : Option ℕ) (colons : ℕ) → waits b ≡ false → Tells b (on_colons o w colons)
   unfolding on_colons
   tells_colons o w colons h =
       either (Tells b) (eqb colons 1) (λ e. tt) (λ e. either (Tells b) (eqb colons 2) (λ e. tt) (λ e. either (Tells b) (eqb colons 3) (λ e. tt) (λ e. h)))
@@ -125,10 +123,10 @@ module _ (b : ℕ) where
   pub tells : (r : Reading) → Tells b (turn r b)
   unfolding turn
   tells (InFlags o) =
-      tells_flag o (cond (is_digit b) (More (InWidth o (digit_of b))) (on_letter o Unset b))
-      (either (Tells b) (is_digit b) (λ d q. waits_digit d) (λ d. tells_letter o Unset d))
+      tells_flag o (cond (is_digit b) (More (InWidth o (digit_of b))) (on_letter o None b))
+      (either (Tells b) (is_digit b) (λ d q. waits_digit d) (λ d. tells_letter o None d))
   tells (InWidth o width) =
-      either (Tells b) (is_digit b) (λ d q. waits_digit d) (λ d. either (Tells b) (too_wide width) (λ e. tt) (λ e. tells_letter o (Of width) d))
+      either (Tells b) (is_digit b) (λ d q. waits_digit d) (λ d. either (Tells b) (too_wide width) (λ e. tt) (λ e. tells_letter o (Some width) d))
   tells (AtModifier o w m) =
       either (Tells b) (member b (modified m)) (λ e. tells_entry o w true (spec_of b) (member_quiet (modified m) (tables_quiet m) e)) (λ e. tt)
   tells (InColons o w colons) =

@@ -1,4 +1,5 @@
 -- What some bytes settle are the items of those before what is pending, as a format of its own: nothing of "a directive not yet wholly read".
+use Rattle.std.specs.Prelude.{Some}
 use mathlib.Core.Path.{◌≡◌, refl, sym, ap, ◌∙◌}
 use mathlib.Core.Bool.{Bool, true, false, not, cond}
 use mathlib.Core.List.{List, [], ◌∷◌, ◌++◌, append-nil}
@@ -8,7 +9,6 @@ use native.Mathlib.Decide.{dec_le}
 use borrow.Author.Tests.{eqb-true}
 use lib.Dec.{eqb}
 use lib.ListN.{length, take, length-append}
-use Rattle.rules.specs.declared.Width.TheVariants.{Of}
 use Rattle.rules.specs.declared.Reading.{Reading}
 use Rattle.rules.specs.declared.Reading.TheVariants.{InFlags, InWidth, AtModifier, InColons}
 use Rattle.rules.specs.declared.Turn.{Turn}
@@ -25,7 +25,7 @@ unfolding turn open? on_flag on_letter look_up possible_specs
 closed (InFlags o) e = let z : ◌≡◌ {A = ℕ} 0 1 = cc in absurd (omega arith)
 closed (InWidth o width) e = go (too_wide width) e
   where
-    go : (t : Bool) → cond t Unread (on_letter o (Of width) (byte "%")) ≡ Unread → not t ≡ false
+    go : (t : Bool) → cond t Unread (on_letter o (Some width) (byte "%")) ≡ Unread → not t ≡ false
     go true q = refl
     go false q = let z : ◌≡◌ {A = ℕ} 0 1 = cc in absurd (omega arith)
 closed (AtModifier o w m) e = refl

@@ -1,4 +1,5 @@
 -- What bytes settle is what comes first whatever follows, and no more than that is sure: "nothing of a directive not yet wholly read".
+use Rattle.std.specs.Prelude.{Some, None}
 use mathlib.Core.Path.{◌≡◌, refl, sym, ap, ◌∙◌}
 use mathlib.Core.Bool.{Bool, true, false, cond}
 use mathlib.Core.List.{List, [], ◌∷◌, ◌++◌, append-nil}
@@ -8,7 +9,6 @@ use lib.ListN.{length, length-append}
 use borrow.Author.Tests.{ltb-true, lt-ltb}
 use Rattle.rules.specs.declared.Piece.{Piece}
 use Rattle.rules.specs.declared.Modifier.TheVariants.{E, O}
-use Rattle.rules.specs.declared.Width.TheVariants.{Unset, Of}
 use Rattle.rules.specs.declared.Reading.{Reading}
 use Rattle.rules.specs.declared.Reading.TheVariants.{InFlags, InWidth, AtModifier, InColons}
 use Rattle.rules.specs.declared.Spec.TheVariants.{Number as number}
@@ -53,7 +53,7 @@ longer t b e = let q : t ≡ t ++ (b ∷ []) = cc in omega (arith, ap length q, 
 other : (r : Reading) (t : List ℕ) → Other r t
 unfolding read ending step turn open? on_letter on_flag look_up possible_specs member modified
 other (InFlags o) t =
-    record { bytes = 89 ∷ []; first = directive (piece_of o Unset false (number Year4Digits)); rest = []; gives = refl; differs = λ e. let z : ◌≡◌ {A = ℕ} 0 1 = cc in omega arith }
+    record { bytes = 89 ∷ []; first = directive (piece_of o None false (number Year4Digits)); rest = []; gives = refl; differs = λ e. let z : ◌≡◌ {A = ℕ} 0 1 = cc in omega arith }
 other (InWidth o w) t = go (too_wide w) refl
   where
     go : (b : Bool) → too_wide w ≡ b → Other (InWidth o w) t
@@ -63,9 +63,9 @@ other (InWidth o w) t = go (too_wide w) refl
     go false e =
         record {
           bytes = 89 ∷ [];
-          first = directive (piece_of o (Of w) false (number Year4Digits));
+          first = directive (piece_of o (Some w) false (number Year4Digits));
           rest = [];
-          gives = found_one (InWidth o w) t 89 (piece_of o (Of w) false (number Year4Digits)) (rw e);
+          gives = found_one (InWidth o w) t 89 (piece_of o (Some w) false (number Year4Digits)) (rw e);
           differs = rw e (λ q. let z : ◌≡◌ {A = ℕ} 0 1 = cc in omega arith);
         }
 other (AtModifier o w E) t =

@@ -1,4 +1,5 @@
 -- A directive in 8 bytes: what is stored of one that a parse gives is taken, and is that directive again.
+use Rattle.std.specs.Prelude.{Option, Some, None}
 use mathlib.Core.Path.{◌≡◌, refl, sym, ap}
 use mathlib.Core.Bool.{Bool, true, false, ◌&&◌}
 use mathlib.Core.List.{List, [], ◌∷◌, ◌++◌, append_assoc}
@@ -18,10 +19,7 @@ use Rattle.rules.specs.declared.Spec.TheVariants.{Number as number, Name as name
 use Rattle.rules.specs.declared.Flags.{Flags}
 use Rattle.rules.specs.declared.Padding.{Padding}
 use Rattle.rules.specs.declared.Padding.TheVariants.{Left, Spaces, Zeros}
-use Rattle.rules.specs.declared.Width.{Width}
-use Rattle.rules.specs.declared.Width.TheVariants.{Unset, Of}
 use Rattle.rules.specs.declared.Piece.{Piece}
-use Rattle.rules.specs.declared.Entry.TheVariants.{Is}
 use Rattle.rules.specs.Reading.{Row, possible_specs, look_up}
 use Rattle.rules.specs.Stored.{two_bytes, two_of, four_bytes, four_of, code_of, coded_spec, padding_code, bit, present, width_value, entry_bytes, spec_from, padding_from, flags_from, width_from, entry_of, is_known, width_taken, entry_taken, entries_of, entries_taken, entries_bytes}
 use Rattle.rules.proofs.RecordLaws.{together}
@@ -36,7 +34,7 @@ four_back n s h = omega arith
 -- ## The codes
 
 -- every kind of directive has a code, from which it comes back
-pub spec_back : (s : Spec) → coded_spec (code_of s) ≡ Is s
+pub spec_back : (s : Spec) → coded_spec (code_of s) ≡ Some s
 unfolding coded_spec code_of look_up possible_specs
 spec_back (fixed Percent) = refl
 spec_back (name WeekDayName) = refl
@@ -110,17 +108,17 @@ flags_back false false false = (refl, refl)
 
 -- ## The width
 
-pub width_taken_lem : (w : Width) → WidthOk w → width_taken (present w) (width_value w) ≡ true
-width_taken_lem Unset h = refl
-width_taken_lem (Of w) h = together (le-leb 1 w h.0) (le-leb w 2147483647 h.1)
+pub width_taken_lem : (w : Option ℕ) → WidthOk w → width_taken (present w) (width_value w) ≡ true
+width_taken_lem None h = refl
+width_taken_lem (Some w) h = together (le-leb 1 w h.0) (le-leb w 2147483647 h.1)
 
-width_small : (w : Width) → WidthOk w → width_value w < 4294967296
-width_small Unset h = omega arith
-width_small (Of w) h = omega arith
+width_small : (w : Option ℕ) → WidthOk w → width_value w < 4294967296
+width_small None h = omega arith
+width_small (Some w) h = omega arith
 
-width_back : (w : Width) (s : List ℕ) → WidthOk w → width_from (present w) (four_of (four_bytes (width_value w) ++ s)) ≡ w
-width_back Unset s h = refl
-width_back (Of w) s h = ap Of (four_back w s (width_small (Of w) h))
+width_back : (w : Option ℕ) (s : List ℕ) → WidthOk w → width_from (present w) (four_of (four_bytes (width_value w) ++ s)) ≡ w
+width_back None s h = refl
+width_back (Some w) s h = ap Some (four_back w s (width_small (Some w) h))
 
 -- ## A directive
 
@@ -129,7 +127,7 @@ pub record Given (p : Piece) : Type 0 where
   pub width : WidthOk p.width
   pub unskipped : p.skipped ≡ false
 
-same_piece : (p : Piece) {w : Width} {d : Padding} {f : Flags} {s : Spec} {k : Bool} → w ≡ p.width → d ≡ p.padding → f ≡ p.flags → s ≡ p.spec → k ≡ p.skipped →
+same_piece : (p : Piece) {w : Option ℕ} {d : Padding} {f : Flags} {s : Spec} {k : Bool} → w ≡ p.width → d ≡ p.padding → f ≡ p.flags → s ≡ p.spec → k ≡ p.skipped →
     record { width = w; padding = d; flags = f; spec = s; skipped = k } ≡ p
 same_piece p h₁ h₂ h₃ h₄ h₅ = rw (h₁, h₂, h₃, h₄, h₅)
 

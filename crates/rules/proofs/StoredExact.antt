@@ -1,4 +1,5 @@
 -- Which 8 bytes are taken as a directive: exactly those that say one which some format is parsed to.
+use Rattle.std.specs.Prelude.{Option, Some, None}
 use mathlib.Core.Path.{◌≡◌, refl, sym, ap, subst, ◌∙◌}
 use mathlib.Core.Bool.{Bool, true, false, cond, ◌&&◌}
 use mathlib.Core.List.{List, [], ◌∷◌, ◌++◌, append_assoc}
@@ -13,12 +14,8 @@ use borrow.Author.Tests.{eqb-true, leb-true, ne_eqb, le-leb}
 use Rattle.rules.specs.declared.Offset.TheVariants.{TimeZoneOffsetHourMinuteColon, TimeZoneOffsetHourMinuteSecondColon, TimeZoneOffsetColonMinimal}
 use Rattle.rules.specs.declared.Spec.{Spec}
 use Rattle.rules.specs.declared.Spec.TheVariants.{Offset as offset}
-use Rattle.rules.specs.declared.Entry.{Entry}
-use Rattle.rules.specs.declared.Entry.TheVariants.{Is, Missing}
 use Rattle.rules.specs.declared.Padding.{Padding}
 use Rattle.rules.specs.declared.Padding.TheVariants.{Left, Spaces, Zeros}
-use Rattle.rules.specs.declared.Width.{Width}
-use Rattle.rules.specs.declared.Width.TheVariants.{Unset, Of}
 use Rattle.rules.specs.declared.Piece.{Piece}
 use Rattle.rules.specs.declared.Options.{Options}
 use Rattle.rules.specs.declared.Reading.{Reading}
@@ -109,7 +106,7 @@ no_flag o d other h k =
 first_digit : (o : Options) (d : ℕ) → 1 ≤ d → d < 10 → turn (InFlags o) (48 + d) ≡ More (InWidth o d)
 unfolding turn
 first_digit o d h k =
-    no_flag o d _ h k ∙ ap (λ (t : Bool). cond t (More (InWidth o (48 + d - 48))) (on_letter o Unset (48 + d))) (digit_is d k) ∙ ap (λ (v : ℕ). More (InWidth o v)) (omega arith)
+    no_flag o d _ h k ∙ ap (λ (t : Bool). cond t (More (InWidth o (48 + d - 48))) (on_letter o None (48 + d))) (digit_is d k) ∙ ap (λ (v : ℕ). More (InWidth o v)) (omega arith)
 
 next_digit : (o : Options) (v w d : ℕ) → d < 10 → w ≡ v * 10 + d → w ≤ 2147483647 → turn (InWidth o v) (48 + d) ≡ More (InWidth o w)
 unfolding turn
@@ -125,24 +122,24 @@ digits_read o (suc fuel) w f h k =
           (i.0 ++ ((48 + w % 10) ∷ []), i.1 on one (48 + w % 10) (next_digit o (w / 10) w (w % 10) (omega arith) (omega arith) k))
     ]
 
-width_read : (o : Options) (w : Width) → WidthOk w → (bytes : List ℕ) × Leads (InFlags o) bytes (behind o w)
-width_read o Unset h = ([], none)
-width_read o (Of w) h = digits_read o (suc w) w (omega arith) h.0 h.1
+width_read : (o : Options) (w : Option ℕ) → WidthOk w → (bytes : List ℕ) × Leads (InFlags o) bytes (behind o w)
+width_read o None h = ([], none)
+width_read o (Some w) h = digits_read o (suc w) w (omega arith) h.0 h.1
 
 -- ## The letter or the form
 
 -- bytes that end a directive after its flags and width
-abbrev Ends : Options → Width → Spec → Type 0
+abbrev Ends : Options → Option ℕ → Spec → Type 0
 Ends o w s = (bytes : List ℕ) × ((t : List ℕ) → read (inside (behind o w) t) bytes ≡ directive (piece_of o w false s) ∷ [])
 
-module _ (o : Options) (w : Width) (h : WidthOk w) where
+module _ (o : Options) (w : Option ℕ) (h : WidthOk w) where
   colon : turn (behind o w) (byte ":") ≡ More (InColons o w 1)
   unfolding turn on_flag on_letter
   colon = go w h
     where
-      go : (w : Width) → WidthOk w → turn (behind o w) (byte ":") ≡ More (InColons o w 1)
-      go Unset h = refl
-      go (Of v) h = rw (narrow v h)
+      go : (w : Option ℕ) → WidthOk w → turn (behind o w) (byte ":") ≡ More (InColons o w 1)
+      go None h = refl
+      go (Some v) h = rw (narrow v h)
 
   colon_on : (n : ℕ) → turn (InColons o w n) (byte ":") ≡ More (InColons o w (min (n + 1) 4))
   unfolding turn
@@ -161,15 +158,15 @@ module _ (o : Options) (w : Width) (h : WidthOk w) where
   three_colons : Leads (behind o w) (byte ":" ∷ byte ":" ∷ byte ":" ∷ []) (InColons o w 3)
   three_colons = two_colons on one (byte ":") (colon_on 2)
 
-  same_ends : {s s' : Spec} → Ends o w s → Is s ≡ Is s' → Ends o w s'
+  same_ends : {s s' : Spec} → Ends o w s → Some s ≡ Some s' → Ends o w s'
   same_ends {s} {s'} x e = let q : s ≡ s' = cc in subst (Ends o w) q x
 
   ends_with : (s : Spec) → Ends o w s
   unfolding coded_spec on_colons
   ends_with s =
-      by_test (λ (e : Entry). e ≡ Is s → Ends o w s) (eqb (code_of s) 1) (λ t. same_ends (form_ends _ 1 (offset TimeZoneOffsetHourMinuteColon) one_colon refl))
-      (λ f. by_test (λ (e : Entry). e ≡ Is s → Ends o w s) (eqb (code_of s) 2) (λ t. same_ends (form_ends _ 2 (offset TimeZoneOffsetHourMinuteSecondColon) two_colons refl))
-      (λ f. by_test (λ (e : Entry). e ≡ Is s → Ends o w s) (eqb (code_of s) 3) (λ t. same_ends (form_ends _ 3 (offset TimeZoneOffsetColonMinimal) three_colons refl))
+      by_test (λ (e : Option Spec). e ≡ Some s → Ends o w s) (eqb (code_of s) 1) (λ t. same_ends (form_ends _ 1 (offset TimeZoneOffsetHourMinuteColon) one_colon refl))
+      (λ f. by_test (λ (e : Option Spec). e ≡ Some s → Ends o w s) (eqb (code_of s) 2) (λ t. same_ends (form_ends _ 2 (offset TimeZoneOffsetHourMinuteSecondColon) two_colons refl))
+      (λ f. by_test (λ (e : Option Spec). e ≡ Some s → Ends o w s) (eqb (code_of s) 3) (λ t. same_ends (form_ends _ 3 (offset TimeZoneOffsetColonMinimal) three_colons refl))
       (λ f e. (code_of s ∷ [], finds (code_of s) none (letter_ends o w h (code_of s) s e)))))
       (spec_back s)
 
@@ -194,9 +191,9 @@ parse_gives p g =
 
 -- ## What is taken says such a directive
 
-known_is : (e : Entry) → is_known e ≡ true → e ≡ Is (spec_from e)
-known_is (Is s) h = refl
-known_is Missing h = let z : ◌≡◌ {A = ℕ} 0 1 = cc in absurd (omega arith)
+known_is : (e : Option Spec) → is_known e ≡ true → e ≡ Some (spec_from e)
+known_is (Some s) h = refl
+known_is None h = let z : ◌≡◌ {A = ℕ} 0 1 = cc in absurd (omega arith)
 
 padding_only : (n : ℕ) → n ≤ 2 → n ≡ padding_code (padding_from n)
 padding_only zero h = refl
@@ -216,7 +213,7 @@ flags_only (suc (suc (suc (suc (suc (suc (suc zero))))))) h = refl
 flags_only (suc (suc (suc (suc (suc (suc (suc (suc n)))))))) h = absurd (omega arith)
 
 width_only : (there value : ℕ) → width_taken there value ≡ true → (t : Bool) → eqb there 0 ≡ t →
-    (there ≡ present (cond t Unset (Of value))) × (value ≡ width_value (cond t Unset (Of value))) × WidthOk (cond t Unset (Of value))
+    (there ≡ present (cond t None (Some value))) × (value ≡ width_value (cond t None (Some value))) × WidthOk (cond t None (Some value))
 width_only there value g true e = (eqb-true there 0 e, eqb-true value 0 (rw e at g), tt)
 width_only there value g false e =
     let k = both (eqb there 1) (leb 1 value && leb value 2147483647) (rw e at g) in

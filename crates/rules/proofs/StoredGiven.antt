@@ -1,4 +1,5 @@
 -- Every directive that is read can be stored; no stored form is longer than 22,534 bytes, and one has as many.
+use Rattle.std.specs.Prelude.{None}
 use mathlib.Core.Path.{◌≡◌, refl, ap}
 use mathlib.Core.Bool.{Bool, true, false, cond}
 use mathlib.Core.List.{List, [], ◌∷◌, ◌++◌, append_assoc}
@@ -9,7 +10,6 @@ use lib.ListN.{length, length-append}
 use Rattle.rules.specs.declared.Number.TheVariants.{Year4Digits}
 use Rattle.rules.specs.declared.Spec.TheVariants.{Number as number}
 use Rattle.rules.specs.declared.Piece.{Piece}
-use Rattle.rules.specs.declared.Width.TheVariants.{Unset}
 use Rattle.rules.specs.declared.Reading.TheVariants.{InFlags}
 use Rattle.rules.specs.declared.Turn.{Turn}
 use Rattle.rules.specs.declared.Turn.TheVariants.{More, Found, Echoed, Unread}
@@ -131,7 +131,7 @@ unfolding years
 years_length zero = omega arith
 years_length (suc n) = omega (arith, years_length n)
 
-pub years_read : (n : ℕ) → items (years (suc n)) ≡ directive (piece_of outset Unset false (number Year4Digits)) ∷ items (years n)
+pub years_read : (n : ℕ) → items (years (suc n)) ≡ directive (piece_of outset None false (number Year4Digits)) ∷ items (years n)
 unfolding years read step turn on_flag on_letter look_up possible_specs
 years_read n = refl
 

@@ -1,5 +1,6 @@
 -- The two entries together: what was compiled is taken, and runs as its format does; 11 exactly where 02 puts it; and any two answers that a promise
 -- allows are equal.
+use Rattle.std.specs.Prelude.{Result}
 use mathlib.Core.Path.{◌≡◌, refl, sym, ap, ◌∙◌}
 use mathlib.Core.Bool.{Bool, true, false}
 use mathlib.Core.List.{List, [], ◌∷◌, append-nil}
@@ -10,8 +11,8 @@ use native.Mathlib.Omega.{arith}
 use borrow.Author.Tests.{leb-true, eqb-true}
 use lib.Dec.{leb}
 use lib.ListN.{length}
+use Rattle.rules.specs.declared.Refusal.{Refusal}
 use Rattle.rules.specs.declared.Record.{Record}
-use Rattle.rules.specs.declared.Answer.{Answer}
 use Rattle.rules.specs.Record.{longest_format, longest_zone, longest_buffer}
 use Rattle.rules.specs.Refusal.{numbered}
 use Rattle.rules.specs.Event.{put, write, check, judged, bytes_of, text_of, done, refused, run, Holds, reported, buffer_after}
@@ -82,13 +83,13 @@ eleven_exactly s n zone r room = (λ e. forth e, λ h. bad_stored s n zone r roo
 -- ## One answer
 
 -- two answers, each with the buffer that it leaves, that the promise of an entry allows
-pub stored_once : (s : List ℕ) (n : ℕ) (zone : List ℕ) (r : Record) (buffer : List ℕ) (a b : Answer) (after-a after-b : List ℕ) →
+pub stored_once : (s : List ℕ) (n : ℕ) (zone : List ℕ) (r : Record) (buffer : List ℕ) (a b : Result ℕ Refusal) (after-a after-b : List ℕ) →
     numbered a ≡ reported (formatted_stored s n zone r (length buffer)) → after-a ≡ buffer_after (formatted_stored s n zone r (length buffer)) buffer →
     numbered b ≡ reported (formatted_stored s n zone r (length buffer)) → after-b ≡ buffer_after (formatted_stored s n zone r (length buffer)) buffer →
     (a ≡ b) × (after-a ≡ after-b)
 stored_once s n zone r buffer a b after-a after-b p q p' q' = (one_answer a b (p ∙ sym p'), q ∙ sym q')
 
-pub compiled_once : (format buffer : List ℕ) (a b : Answer) (after-a after-b : List ℕ) →
+pub compiled_once : (format buffer : List ℕ) (a b : Result ℕ Refusal) (after-a after-b : List ℕ) →
     numbered a ≡ reported (compiled format (length buffer)) → after-a ≡ buffer_after (compiled format (length buffer)) buffer →
     numbered b ≡ reported (compiled format (length buffer)) → after-b ≡ buffer_after (compiled format (length buffer)) buffer →
     (a ≡ b) × (after-a ≡ after-b)

@@ -1,4 +1,5 @@
 -- The widths that reading gives (01, "Reading a directive", 2).
+use Rattle.std.specs.Prelude.{Option, Some, None}
 use mathlib.Core.Path.{◌≡◌, refl, subst}
 use mathlib.Core.Bool.{Bool, true, false}
 use mathlib.Core.List.{List, Memᴰ}
@@ -6,12 +7,9 @@ use Prim.Native.Nat.{ℕ, ◌≤◌}
 use native.Mathlib.Omega.{arith}
 use borrow.Author.Tests.{ltb-false, eqb-false}
 use lib.Dec.{leb, eqb}
+use Rattle.rules.specs.declared.Spec.{Spec}
 use Rattle.rules.specs.declared.Options.{Options}
-use Rattle.rules.specs.declared.Width.{Width}
-use Rattle.rules.specs.declared.Width.TheVariants.{Unset, Of}
 use Rattle.rules.specs.declared.Piece.{Piece}
-use Rattle.rules.specs.declared.Entry.{Entry}
-use Rattle.rules.specs.declared.Entry.TheVariants.{Is, Missing}
 use Rattle.rules.specs.declared.Modifier.{Modifier}
 use Rattle.rules.specs.declared.Modifier.TheVariants.{E, O}
 use Rattle.rules.specs.declared.Padding.TheVariants.{Zeros}
@@ -38,8 +36,8 @@ module _ (P : Turn → Type 0) where
       (λ zero. by_test P (eqb b (byte "^")) (λ t. flag _)
       (λ f. by_test P (eqb b (byte "#")) (λ t. flag _) (λ f. rest (eqb-false b (byte "0") zero))))))
 
-  letter_cases : (o : Options) (w : Width) (b : ℕ) → P (More (InColons o w 1)) → ((m : Modifier) → P (More (AtModifier o w m))) → P Unread →
-      ((e : Entry) → P (on_entry o w false e)) → P (on_letter o w b)
+  letter_cases : (o : Options) (w : Option ℕ) (b : ℕ) → P (More (InColons o w 1)) → ((m : Modifier) → P (More (AtModifier o w m))) → P Unread →
+      ((e : Option Spec) → P (on_entry o w false e)) → P (on_letter o w b)
   unfolding on_letter
   letter_cases o w b colon modifier unread entry =
       by_test P (eqb b (byte ":")) (λ t. colon)
@@ -64,9 +62,9 @@ StartsAt b (Found p) = Unit {0}
 StartsAt b Echoed = Unit {0}
 StartsAt b Unread = Unit {0}
 
-entry_starts : (b : ℕ) (o : Options) (w : Width) (skipped : Bool) (e : Entry) → StartsAt b (on_entry o w skipped e)
-entry_starts b o w skipped (Is s) = tt
-entry_starts b o w skipped Missing = tt
+entry_starts : (b : ℕ) (o : Options) (w : Option ℕ) (skipped : Bool) (e : Option Spec) → StartsAt b (on_entry o w skipped e)
+entry_starts b o w skipped (Some s) = tt
+entry_starts b o w skipped None = tt
 
 -- "A width never starts with 0"
 pub width_starts : (o o' : Options) (b w : ℕ) → turn (InFlags o) b ≡ More (InWidth o' w) → (byte "1" ≤ b) × (b ≤ byte "9")
@@ -75,14 +73,14 @@ width_starts o o' b w e =
     subst (StartsAt b) e
     (flag_cases (StartsAt b) o b _ (λ o''. tt)
     (λ no_zero. by_test (StartsAt b) (is_digit b) (λ digit. let d = ends (byte "0") (byte "9") b digit in (omega arith, d.1))
-    (λ f. letter_cases (StartsAt b) o Unset b tt (λ m. tt) tt (entry_starts b o Unset false))))
+    (λ f. letter_cases (StartsAt b) o None b tt (λ m. tt) tt (entry_starts b o None false))))
 
 -- ## The width
 
 -- none, or one from 1 to 2,147,483,647
-abbrev pub WidthOk : Width → Type 0
-WidthOk Unset = Unit {0}
-WidthOk (Of w) = (1 ≤ w) × (w ≤ 2147483647)
+abbrev pub WidthOk : Option ℕ → Type 0
+WidthOk None = Unit {0}
+WidthOk (Some w) = (1 ≤ w) × (w ≤ 2147483647)
 
 abbrev ReadingOk : Reading → Type 0
 ReadingOk (InFlags o) = Unit {0}
@@ -96,14 +94,14 @@ TurnOk (Found p) = WidthOk p.width
 TurnOk Echoed = Unit {0}
 TurnOk Unread = Unit {0}
 
-entry_ok : (o : Options) (w : Width) (skipped : Bool) (e : Entry) → WidthOk w → TurnOk (on_entry o w skipped e)
-entry_ok o w skipped (Is s) h = h
-entry_ok o w skipped Missing h = tt
+entry_ok : (o : Options) (w : Option ℕ) (skipped : Bool) (e : Option Spec) → WidthOk w → TurnOk (on_entry o w skipped e)
+entry_ok o w skipped (Some s) h = h
+entry_ok o w skipped None h = tt
 
-letter_ok : (o : Options) (w : Width) (b : ℕ) → WidthOk w → TurnOk (on_letter o w b)
+letter_ok : (o : Options) (w : Option ℕ) (b : ℕ) → WidthOk w → TurnOk (on_letter o w b)
 letter_ok o w b h = letter_cases TurnOk o w b h (λ m. h) tt (λ e. entry_ok o w false e h)
 
-colons_ok : (o : Options) (w : Width) (colons : ℕ) → WidthOk w → TurnOk (on_colons o w colons)
+colons_ok : (o : Options) (w : Option ℕ) (colons : ℕ) → WidthOk w → TurnOk (on_colons o w colons)
 unfolding on_colons
 colons_ok o w colons h =
     by_test TurnOk (eqb colons 1) (λ t. h) (λ f. by_test TurnOk (eqb colons 2) (λ t. h) (λ f. by_test TurnOk (eqb colons 3) (λ t. h) (λ f. tt)))
@@ -112,10 +110,10 @@ turn_ok : (r : Reading) (b : ℕ) → ReadingOk r → TurnOk (turn r b)
 unfolding turn
 turn_ok (InFlags o) b h =
     flag_cases TurnOk o b _ (λ o'. tt)
-    (λ no_zero. by_test TurnOk (is_digit b) (λ digit. let d = ends (byte "0") (byte "9") b digit in omega arith) (λ f. letter_ok o Unset b tt))
+    (λ no_zero. by_test TurnOk (is_digit b) (λ digit. let d = ends (byte "0") (byte "9") b digit in omega arith) (λ f. letter_ok o None b tt))
 turn_ok (InWidth o w) b h =
     by_test TurnOk (is_digit b) (λ digit. omega arith)
-    (λ f. by_test TurnOk (too_wide w) (λ t. tt) (λ narrow. letter_ok o (Of w) b (h, ltb-false 2147483647 w narrow)))
+    (λ f. by_test TurnOk (too_wide w) (λ t. tt) (λ narrow. letter_ok o (Some w) b (h, ltb-false 2147483647 w narrow)))
 turn_ok (AtModifier o w m) b h = by_test TurnOk (member b (modified m)) (λ t. entry_ok o w true (spec_of b) h) (λ f. tt)
 turn_ok (InColons o w colons) b h =
     by_test TurnOk (eqb b (byte ":")) (λ t. h) (λ f. by_test TurnOk (eqb b (byte "z")) (λ t. colons_ok o w colons h) (λ f. tt))

@@ -1,11 +1,8 @@
 -- A record from a count of seconds since 1970-01-01 UTC, and back (02, request 1).
-use Rattle.std.specs.Prelude.{◌≡◌, Bool, ℕ, ◌+◌, ◌*◌, ◌<◌, ◌≤◌, ℤ, pos, ◌+ℤ◌, ◌-ℤ◌, ◌*ℤ◌}
+use Rattle.std.specs.Prelude.{◌≡◌, Bool, ℕ, ◌+◌, ◌*◌, ◌<◌, ◌≤◌, ℤ, pos, ◌+ℤ◌, ◌-ℤ◌, ◌*ℤ◌, Result, Ok, Err}
 use Rattle.std.proofs.Math.Option.{Option, none, some}
+use Rattle.rules.specs.declared.Refusal.{Refusal}
 use Rattle.rules.specs.declared.Record.{Record}
-use Rattle.rules.specs.declared.Dated.{Dated}
-use Rattle.rules.specs.declared.Dated.TheVariants as of-dated
-use Rattle.rules.specs.declared.Counted.{Counted}
-use Rattle.rules.specs.declared.Counted.TheVariants as of-counted
 use Rattle.rules.specs.Record.{InI32, InI64}
 use Rattle.rules.specs.Refusal.{number_of}
 use Rattle.rules.specs.Decimal.{floor_div, floor_mod}
@@ -17,13 +14,13 @@ pub record Reply (A : Type 0) : Type 0 where
   pub value : Option A
 
 -- 0 and the record, or "no record"; 0 and the count, or none
-unfoldable pub dated_reply : Dated → Reply Record
-dated_reply (of-dated.Made r) = record { number = 0; value = some r }
-dated_reply (of-dated.Refused e) = record { number = number_of e; value = none }
+unfoldable pub dated_reply : Result Record Refusal → Reply Record
+dated_reply (Ok r) = record { number = 0; value = some r }
+dated_reply (Err e) = record { number = number_of e; value = none }
 
-unfoldable pub counted_reply : Counted → Reply ℤ
-counted_reply (of-counted.Count c) = record { number = 0; value = some c }
-counted_reply (of-counted.Refused e) = record { number = number_of e; value = none }
+unfoldable pub counted_reply : Result ℤ Refusal → Reply ℤ
+counted_reply (Ok c) = record { number = 0; value = some c }
+counted_reply (Err e) = record { number = number_of e; value = none }
 
 -- the seconds of a record's clock since midnight
 abbrev pub seconds_of : Record → ℕ

@@ -1,13 +1,11 @@
 -- Reading a directive (01, "Reading a directive"): what one byte after the percent sign does, in 01's five steps.
-use Rattle.std.specs.Prelude.{Bool, true, false, cond, not, ◌&&◌, List, [], ◌∷◌, map, ℕ, ◌+◌, ◌-◌, ◌*◌, min, ltb, leb, eqb}
+use Rattle.std.specs.Prelude.{Bool, true, false, cond, not, ◌&&◌, List, [], ◌∷◌, map, ℕ, ◌+◌, ◌-◌, ◌*◌, min, ltb, leb, eqb, Option, Some, None}
 use Rattle.rules.specs.declared.Flag.{Flag}
 use Rattle.rules.specs.declared.Flag.TheVariants.{LeftPadding, ChangeCase, UpperCase}
 use Rattle.rules.specs.declared.Flags.{Flags}
 use Rattle.rules.specs.declared.Padding.{Padding}
 use Rattle.rules.specs.declared.Padding.TheVariants.{Left, Spaces, Zeros}
 use Rattle.rules.specs.declared.Options.{Options}
-use Rattle.rules.specs.declared.Width.{Width}
-use Rattle.rules.specs.declared.Width.TheVariants.{Unset, Of}
 use Rattle.rules.specs.declared.Number.TheVariants.{Year4Digits, YearDiv100, YearRem100, Month, MonthDayZero, MonthDaySpace, YearDay, Hour24hZero, Hour24hSpace, Hour12hZero, Hour12hSpace, Minute, Second, WeekDayFrom1, WeekDayFrom0, YearIso8601, YearIso8601Rem100, WeekNumberIso8601, WeekNumberFromSunday, WeekNumberFromMonday, SecondsSinceEpoch}
 use Rattle.rules.specs.declared.Name.TheVariants.{MonthName, MonthNameAbbr, MeridianLower, MeridianUpper, WeekDayName, WeekDayNameAbbr}
 use Rattle.rules.specs.declared.Fraction.TheVariants.{MilliSecond, FractionalSecond}
@@ -16,8 +14,6 @@ use Rattle.rules.specs.declared.Fixed.TheVariants.{Newline, Tabulation, Percent}
 use Rattle.rules.specs.declared.Combination.TheVariants.{CombinationDateTime, CombinationDate, CombinationIso8601, CombinationVmsDate, CombinationTime12h, CombinationHourMinute24h, CombinationTime24h}
 use Rattle.rules.specs.declared.Spec.{Spec}
 use Rattle.rules.specs.declared.Spec.TheVariants.{Number as number, Name as name, Fraction as fraction, Offset as offset, TimeZoneName, Fixed as fixed, Combination as combination}
-use Rattle.rules.specs.declared.Entry.{Entry}
-use Rattle.rules.specs.declared.Entry.TheVariants.{Is, Missing}
 use Rattle.rules.specs.declared.Piece.{Piece}
 use Rattle.rules.specs.declared.Modifier.{Modifier}
 use Rattle.rules.specs.declared.Modifier.TheVariants.{E, O}
@@ -149,24 +145,24 @@ rising [] = true
 rising (x ∷ []) = true
 rising (x ∷ (y ∷ ys)) = ltb x y && rising (y ∷ ys)
 
-unfoldable pub look_up : ℕ → List Row → Entry
-look_up b [] = Missing
-look_up b (r ∷ rs) = cond (eqb b r.letter) (Is r.spec) (look_up b rs)
+unfoldable pub look_up : ℕ → List Row → Option Spec
+look_up b [] = None
+look_up b (r ∷ rs) = cond (eqb b r.letter) (Some r.spec) (look_up b rs)
 
-abbrev pub spec_of : ℕ → Entry
+abbrev pub spec_of : ℕ → Option Spec
 spec_of b = look_up b possible_specs
 
 -- a directive as read
-abbrev pub piece_of : Options → Width → Bool → Spec → Piece
+abbrev pub piece_of : Options → Option ℕ → Bool → Spec → Piece
 piece_of o w skipped s = record { width = w; padding = o.padding; flags = o.flags; spec = s; skipped = skipped }
 
 -- "Any other byte is read; if it isn't in the 44-entry table: echo, that byte included."
-abbrev pub on_entry : Options → Width → Bool → Entry → Turn
-on_entry o w skipped (Is s) = Found (piece_of o w skipped s)
-on_entry o w skipped Missing = Echoed
+abbrev pub on_entry : Options → Option ℕ → Bool → Option Spec → Turn
+on_entry o w skipped (Some s) = Found (piece_of o w skipped s)
+on_entry o w skipped None = Echoed
 
 -- 3 to 5: the byte after the flags and the width. "A byte of 128 or more is left unread: echo."
-unfoldable pub on_letter : Options → Width → ℕ → Turn
+unfoldable pub on_letter : Options → Option ℕ → ℕ → Turn
 on_letter o w b =
     cond (eqb b (byte ":")) (More (InColons o w 1))
     (cond (eqb b (byte "E")) (More (AtModifier o w E))
@@ -174,7 +170,7 @@ on_letter o w b =
     (cond (leb 128 b) Unread (on_entry o w false (spec_of b)))))
 
 -- 4. "With one, two or three and then `z`: the offset forms below. Four or more and `z`: echo, `z` included."
-unfoldable pub on_colons : Options → Width → ℕ → Turn
+unfoldable pub on_colons : Options → Option ℕ → ℕ → Turn
 on_colons o w colons =
     cond (eqb colons 1) (Found (piece_of o w false (offset TimeZoneOffsetHourMinuteColon)))
     (cond (eqb colons 2) (Found (piece_of o w false (offset TimeZoneOffsetHourMinuteSecondColon)))
@@ -183,9 +179,9 @@ on_colons o w colons =
 
 -- what the byte b does after what was read so far
 unfoldable pub turn : Reading → ℕ → Turn
-turn (InFlags o) b = on_flag o b (cond (is_digit b) (More (InWidth o (digit_of b))) (on_letter o Unset b))
+turn (InFlags o) b = on_flag o b (cond (is_digit b) (More (InWidth o (digit_of b))) (on_letter o None b))
 turn (InWidth o width) b =
-    cond (is_digit b) (More (InWidth o (width_with width b))) (cond (too_wide width) Unread (on_letter o (Of width) b))
+    cond (is_digit b) (More (InWidth o (width_with width b))) (cond (too_wide width) Unread (on_letter o (Some width) b))
 -- an `E` or `O` that is not skipped is a letter of no table entry: echo, and b is left unread
 turn (AtModifier o w m) b = cond (member b (modified m)) (on_entry o w true (spec_of b)) Unread
 -- "Colons without `z`: echo up to the last colon, the next byte unread." Four colons stand for more

@@ -1,9 +1,8 @@
 -- The refusal table (01, "Refusal table"), and what an entry reports.
-use Rattle.std.specs.Prelude.{cond, ℕ, eqb}
+use Rattle.std.specs.Prelude.{cond, ℕ, eqb, Result, Ok, Err}
 use Rattle.rules.specs.declared.Refusal.{Refusal}
+use Rattle.rules.specs.declared.UnknownNumber.{UnknownNumber}
 use Rattle.rules.specs.declared.Refusal.TheVariants.{InvalidTime, InvalidFormatString, FormattedStringTooLarge, WriteZero, InputTooLong, NoBuffer, OutOfRange, LengthMismatch, BadStored}
-use Rattle.rules.specs.declared.Answer.{Answer}
-use Rattle.rules.specs.declared.Answer.TheVariants.{Done, Refused}
 
 unfoldable pub number_of : Refusal → ℕ
 number_of InvalidTime = 1
@@ -29,6 +28,25 @@ refusal_at n =
     (cond (eqb n 11) BadStored
     WriteZero)))))))
 
+-- the refusal with a number of the table, and for any other number that it is none of the table's
+unfoldable pub refusal_with : ℕ → Result Refusal UnknownNumber
+refusal_with n =
+    cond (eqb n 1) (Ok InvalidTime)
+    (cond (eqb n 2) (Ok InvalidFormatString)
+    (cond (eqb n 3) (Ok FormattedStringTooLarge)
+    (cond (eqb n 5) (Ok InputTooLong)
+    (cond (eqb n 6) (Ok NoBuffer)
+    (cond (eqb n 7) (Ok OutOfRange)
+    (cond (eqb n 10) (Ok LengthMismatch)
+    (cond (eqb n 11) (Ok BadStored)
+    (cond (eqb n 4) (Ok WriteZero)
+    (Err (record { 0 = n }))))))))))
+
+-- what a check comes to: 0, or its refusal's number
+unfoldable pub number_in_check : Result (Unit {0}) Refusal → ℕ
+number_in_check (Ok _) = 0
+number_in_check (Err r) = number_of r
+
 -- the refusals that an event of a format can give
 pub data ByEvent : ℕ → Type 0 where
   invalid_time : ByEvent 1
@@ -42,6 +60,6 @@ pub record Report : Type 0 where
   pub bytes : ℕ
 
 -- what an answer reports: 0 and its length, or its refusal and length 0
-unfoldable pub numbered : Answer → Report
-numbered (Done n) = record { number = 0; bytes = n }
-numbered (Refused r) = record { number = number_of r; bytes = 0 }
+unfoldable pub numbered : Result ℕ Refusal → Report
+numbered (Ok n) = record { number = 0; bytes = n }
+numbered (Err r) = record { number = number_of r; bytes = 0 }

@@ -1,12 +1,10 @@
 -- Compiled formats (02, request 6): "a format read once and stored, then run many times". The stored bytes, which of them are taken, and what
 -- running them gives.
-use Rattle.std.specs.Prelude.{◌≡◌, Bool, true, false, cond, ◌&&◌, List, [], ◌∷◌, ◌++◌, ℕ, zero, suc, ◌+◌, ◌-◌, ◌*◌, ◌/◌, ◌%◌, ltb, leb, eqb, length, get_or, take, drop}
+use Rattle.std.specs.Prelude.{◌≡◌, Bool, true, false, cond, ◌&&◌, List, [], ◌∷◌, ◌++◌, ℕ, zero, suc, ◌+◌, ◌-◌, ◌*◌, ◌/◌, ◌%◌, ltb, leb, eqb, length, get_or, take, drop, Option, Some, None}
 use Rattle.rules.specs.declared.Record.{Record}
 use Rattle.rules.specs.declared.Flags.{Flags}
 use Rattle.rules.specs.declared.Padding.{Padding}
 use Rattle.rules.specs.declared.Padding.TheVariants.{Left, Spaces, Zeros}
-use Rattle.rules.specs.declared.Width.{Width}
-use Rattle.rules.specs.declared.Width.TheVariants.{Unset, Of}
 use Rattle.rules.specs.declared.Number.TheVariants.{Year4Digits, YearDiv100, YearRem100, Month, MonthDayZero, MonthDaySpace, YearDay, Hour24hZero, Hour24hSpace, Hour12hZero, Hour12hSpace, Minute, Second, WeekDayFrom1, WeekDayFrom0, YearIso8601, YearIso8601Rem100, WeekNumberIso8601, WeekNumberFromSunday, WeekNumberFromMonday, SecondsSinceEpoch}
 use Rattle.rules.specs.declared.Name.TheVariants.{MonthName, MonthNameAbbr, MeridianLower, MeridianUpper, WeekDayName, WeekDayNameAbbr}
 use Rattle.rules.specs.declared.Fraction.TheVariants.{MilliSecond, FractionalSecond}
@@ -15,8 +13,6 @@ use Rattle.rules.specs.declared.Fixed.TheVariants.{Newline, Tabulation, Percent}
 use Rattle.rules.specs.declared.Combination.TheVariants.{CombinationDateTime, CombinationDate, CombinationIso8601, CombinationVmsDate, CombinationTime12h, CombinationHourMinute24h, CombinationTime24h}
 use Rattle.rules.specs.declared.Spec.{Spec}
 use Rattle.rules.specs.declared.Spec.TheVariants.{Number as number, Name as name, Fraction as fraction, Offset as offset, TimeZoneName, Fixed as fixed, Combination as combination}
-use Rattle.rules.specs.declared.Entry.{Entry}
-use Rattle.rules.specs.declared.Entry.TheVariants.{Is, Missing}
 use Rattle.rules.specs.declared.Piece.{Piece}
 use Rattle.rules.specs.Ascii.{byte}
 use Rattle.rules.specs.Record.{longest_format, longest_zone, longest_buffer}
@@ -122,11 +118,11 @@ code_of (offset TimeZoneOffsetHourMinuteColon) = 1
 code_of (offset TimeZoneOffsetHourMinuteSecondColon) = 2
 code_of (offset TimeZoneOffsetColonMinimal) = 3
 
-unfoldable pub coded_spec : ℕ → Entry
+unfoldable pub coded_spec : ℕ → Option Spec
 coded_spec code =
-    cond (eqb code 1) (Is (offset TimeZoneOffsetHourMinuteColon))
-    (cond (eqb code 2) (Is (offset TimeZoneOffsetHourMinuteSecondColon))
-    (cond (eqb code 3) (Is (offset TimeZoneOffsetColonMinimal))
+    cond (eqb code 1) (Some (offset TimeZoneOffsetHourMinuteColon))
+    (cond (eqb code 2) (Some (offset TimeZoneOffsetHourMinuteSecondColon))
+    (cond (eqb code 3) (Some (offset TimeZoneOffsetColonMinimal))
     (spec_of code)))
 
 abbrev pub padding_code : Padding → ℕ
@@ -142,22 +138,22 @@ bit false = 0
 abbrev pub flags_code : Flags → ℕ
 flags_code f = bit f.left + (bit f.change * 2 + bit f.upper * 4)
 
-abbrev pub present : Width → ℕ
-present Unset = 0
-present (Of w) = 1
+abbrev pub present : Option ℕ → ℕ
+present None = 0
+present (Some w) = 1
 
 -- 0 where there is no width
-abbrev pub width_value : Width → ℕ
-width_value Unset = 0
-width_value (Of w) = w
+abbrev pub width_value : Option ℕ → ℕ
+width_value None = 0
+width_value (Some w) = w
 
 unfoldable pub entry_bytes : Piece → List ℕ
 entry_bytes p = code_of p.spec ∷ padding_code p.padding ∷ flags_code p.flags ∷ present p.width ∷ four_bytes (width_value p.width)
 
 -- back from 8 bytes. Bytes that are not taken have some meaning here too, which nothing uses
-abbrev pub spec_from : Entry → Spec
-spec_from (Is s) = s
-spec_from Missing = fixed Percent
+abbrev pub spec_from : Option Spec → Spec
+spec_from (Some s) = s
+spec_from None = fixed Percent
 
 abbrev pub padding_from : ℕ → Padding
 padding_from code = cond (eqb code 0) Left (cond (eqb code 1) Spaces Zeros)
@@ -165,8 +161,8 @@ padding_from code = cond (eqb code 0) Left (cond (eqb code 1) Spaces Zeros)
 abbrev pub flags_from : ℕ → Flags
 flags_from code = record { left = eqb (code % 2) 1; change = eqb (code / 2 % 2) 1; upper = eqb (code / 4) 1 }
 
-abbrev pub width_from : ℕ → ℕ → Width
-width_from there value = cond (eqb there 0) Unset (Of value)
+abbrev pub width_from : ℕ → ℕ → Option ℕ
+width_from there value = cond (eqb there 0) None (Some value)
 
 unfoldable pub entry_of : List ℕ → Piece
 entry_of s =
@@ -180,9 +176,9 @@ entry_of s =
 
 -- "a directive is one no parse gives": no letter of the table and no form, padding above 2, flags above 7, present above 1, a width of 0 or above
 -- 2,147,483,647 where it is present, a width that isn't 0 where not
-abbrev pub is_known : Entry → Bool
-is_known (Is s) = true
-is_known Missing = false
+abbrev pub is_known : Option Spec → Bool
+is_known (Some s) = true
+is_known None = false
 
 abbrev pub width_taken : ℕ → ℕ → Bool
 width_taken there value = cond (eqb there 0) (eqb value 0) (eqb there 1 && (leb 1 value && leb value 2147483647))
@@ -212,7 +208,7 @@ steps_taken (suc n) s directives left =
 
 -- where an index passes its section
 abbrev pub no_piece : Piece
-no_piece = record { width = Unset; padding = Left; flags = no_flags; spec = fixed Percent; skipped = false }
+no_piece = record { width = None; padding = Left; flags = no_flags; spec = fixed Percent; skipped = false }
 
 -- the parts that n steps name
 unfoldable pub steps_of : ℕ → List ℕ → List Piece → List ℕ → List Part
@@ -318,7 +314,7 @@ formatted_stored s format_length zone r room = run (limit_of format_length) room
 
 -- they say this directive
 pub record Codes (s : List ℕ) (p : Piece) : Type 0 where
-  pub letter : coded_spec (get_or s 0 0) ≡ Is p.spec
+  pub letter : coded_spec (get_or s 0 0) ≡ Some p.spec
   pub padding : get_or s 1 0 ≡ padding_code p.padding
   pub flags : get_or s 2 0 ≡ flags_code p.flags
   pub there : get_or s 3 0 ≡ present p.width

@@ -1,12 +1,11 @@
 -- Writing a directive (01, "Writing a directive"): what it pads before the check, the fields that it checks, what it writes.
-use Rattle.std.specs.Prelude.{Bool, true, false, cond, ℕ, ◌+◌, ◌-◌, ◌/◌, ◌%◌, ◌^◌, min, eqb, length, ℤ, pos, negsuc}
+use Rattle.std.specs.Prelude.{Bool, true, false, cond, ℕ, ◌+◌, ◌-◌, ◌/◌, ◌%◌, ◌^◌, min, eqb, length, ℤ, pos, negsuc, Option}
+use Rattle.std.specs.Option.{unwrap_or}
 use mathlib.Core.List.{List, [], ◌∷◌, ◌++◌, map, flatten}
 use Rattle.rules.specs.declared.Record.{Record}
 use Rattle.rules.specs.declared.Flags.{Flags}
 use Rattle.rules.specs.declared.Padding.{Padding}
 use Rattle.rules.specs.declared.Padding.TheVariants.{Left, Spaces, Zeros}
-use Rattle.rules.specs.declared.Width.{Width}
-use Rattle.rules.specs.declared.Width.TheVariants.{Unset, Of}
 use Rattle.rules.specs.declared.Number.{Number}
 use Rattle.rules.specs.declared.Number.TheVariants.{Year4Digits, YearDiv100, YearRem100, Month, MonthDayZero, MonthDaySpace, YearDay, Hour24hZero, Hour24hSpace, Hour12hZero, Hour12hSpace, Minute, Second, WeekDayFrom1, WeekDayFrom0, YearIso8601, YearIso8601Rem100, WeekNumberIso8601, WeekNumberFromSunday, WeekNumberFromMonday, SecondsSinceEpoch}
 use Rattle.rules.specs.declared.Name.{Name}
@@ -29,9 +28,8 @@ use Rattle.rules.specs.Week.{week_number, iso_week}
 use Rattle.rules.specs.Offset.{minus, form_of, offset_writes}
 
 -- the width that is given, or else a default
-abbrev pub width_or : Width → ℕ → ℕ
-width_or Unset default = default
-width_or (Of w) default = w
+abbrev pub width_or : Option ℕ → ℕ → ℕ
+width_or w default = unwrap_or w default
 
 -- ## Numbers
 

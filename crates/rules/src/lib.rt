@@ -3,7 +3,9 @@
 
 ghost use Rattle.std.specs.Prelude.{◌≡◌, ◌||◌};
 ghost use Rattle.rules.specs.Reading.{no_flags, with_flag, has_flag};
-ghost use Rattle.rules.specs.Refusal.{number_of, refusal_at};
+ghost use Rattle.rules.specs.Refusal.{number_of, refusal_at, refusal_with};
+
+use std::fmt;
 
 // The longest inputs, in bytes.
 pub const LONGEST_FORMAT: usize = 4096;
@@ -12,7 +14,7 @@ pub const LONGEST_ZONE: usize = 64;
 
 pub const LONGEST_BUFFER: usize = 65536;
 
-// A time, flat: the fields are independent. The zone name is a byte slice beside it.
+// A time, flat: the fields are independent. The zone name is a byte slice beside it, and not in it: `formatted` and the C entries take them apart.
 #[derive(Clone, Copy)]
 pub struct Record {
     pub year: i32,
@@ -175,23 +177,10 @@ pub struct IsoWeek {
     pub week: u8,
 }
 
-// What the table of directives has for a letter.
-#[derive(Clone, Copy)]
-pub enum Entry {
-    Is(Spec),
-    Missing,
-}
-
-#[derive(Clone, Copy)]
-pub enum Width {
-    Unset,
-    Of(usize),
-}
-
 // A directive. `skipped`: an `E` or `O` stood before its letter.
 #[derive(Clone, Copy)]
 pub struct Piece {
-    pub width: Width,
+    pub width: Option<usize>,
     pub padding: Padding,
     pub flags: Flags,
     pub spec: Spec,
@@ -223,8 +212,8 @@ pub enum Modifier {
 pub enum Reading {
     InFlags(Options),
     InWidth(Options, usize),
-    AtModifier(Options, Width, Modifier),
-    InColons(Options, Width, usize),
+    AtModifier(Options, Option<usize>, Modifier),
+    InColons(Options, Option<usize>, usize),
 }
 
 // What one more byte does: the directive goes on; it ends with this byte, as a piece or as an echo; it ended before it, as an echo.
@@ -236,76 +225,82 @@ pub enum Turn {
     Unread,
 }
 
-#[derive(Clone, Copy)]
+// The refusal table: each refusal and its number.
+#[derive(Clone, Copy, Debug, PartialEq, Eq)]
 pub enum Refusal {
-    InvalidTime,
-    InvalidFormatString,
-    FormattedStringTooLarge,
-    WriteZero,
-    InputTooLong,
-    NoBuffer,
-    OutOfRange,
-    LengthMismatch,
-    BadStored,
+    InvalidTime = 1,
+    InvalidFormatString = 2,
+    FormattedStringTooLarge = 3,
+    WriteZero = 4,
+    InputTooLong = 5,
+    NoBuffer = 6,
+    OutOfRange = 7,
+    LengthMismatch = 10,
+    BadStored = 11,
 }
 
-// A refusal's number in the table.
-#[tactic(auto, unfolding(crate::specs::Refusal::number_of))]
-pub fn number_of(refusal: Refusal) -> u32
-    ensures { result ≡ number_of refusal }
-{
-    match refusal {
-        Refusal::InvalidTime => 1,
-        Refusal::InvalidFormatString => 2,
-        Refusal::FormattedStringTooLarge => 3,
-        Refusal::WriteZero => 4,
-        Refusal::InputTooLong => 5,
-        Refusal::NoBuffer => 6,
-        Refusal::OutOfRange => 7,
-        Refusal::LengthMismatch => 10,
-        Refusal::BadStored => 11,
+impl From<Refusal> for u32 {
+    ghost from_gives = { λ refusal number. number ≡ number_of refusal };
+
+    #[tactic(auto, unfolding(crate::specs::Refusal::number_of))]
+    fn from(refusal: Refusal) -> u32 {
+        refusal as u32
+    }
+}
+
+// A number that is none of the table's.
+#[derive(Clone, Copy, Debug, PartialEq, Eq)]
+pub struct UnknownNumber(pub usize);
+
+impl TryFrom<usize> for Refusal {
+    type Error = UnknownNumber;
+
+    ghost try_from_gives = { λ number answer. answer ≡ refusal_with number };
+
+    #[tactic(auto, unfolding(crate::specs::Refusal::refusal_with))]
+    fn try_from(number: usize) -> Result<Refusal, UnknownNumber> {
+        match number {
+            1 => Ok(Refusal::InvalidTime),
+            2 => Ok(Refusal::InvalidFormatString),
+            3 => Ok(Refusal::FormattedStringTooLarge),
+            4 => Ok(Refusal::WriteZero),
+            5 => Ok(Refusal::InputTooLong),
+            6 => Ok(Refusal::NoBuffer),
+            7 => Ok(Refusal::OutOfRange),
+            10 => Ok(Refusal::LengthMismatch),
+            11 => Ok(Refusal::BadStored),
+            _ => Err(UnknownNumber(number)),
+        }
     }
 }
 
 // The refusal with a number of the table; with any other it is WriteZero.
-#[tactic(auto, unfolding(crate::specs::Refusal::refusal_at))]
+#[tactic(auto, using(crate::proofs::OneAnswer::refusal_or))]
 pub fn refusal_of(number: usize) -> Refusal
     ensures { result ≡ refusal_at number }
 {
-    match number {
-        1 => Refusal::InvalidTime,
-        2 => Refusal::InvalidFormatString,
-        3 => Refusal::FormattedStringTooLarge,
-        5 => Refusal::InputTooLong,
-        6 => Refusal::NoBuffer,
-        7 => Refusal::OutOfRange,
-        10 => Refusal::LengthMismatch,
-        11 => Refusal::BadStored,
-        _ => Refusal::WriteZero,
+    Refusal::try_from(number).unwrap_or(Refusal::WriteZero)
+}
+
+impl fmt::Display for Refusal {
+    fn fmt<W: fmt::Write>(&self, f: &mut fmt::Formatter<W>) -> fmt::Result {
+        f.write_str(match self {
+            Refusal::InvalidTime => "InvalidTime",
+            Refusal::InvalidFormatString => "InvalidFormatString",
+            Refusal::FormattedStringTooLarge => "FormattedStringTooLarge",
+            Refusal::WriteZero => "WriteZero",
+            Refusal::InputTooLong => "InputTooLong",
+            Refusal::NoBuffer => "NoBuffer",
+            Refusal::OutOfRange => "OutOfRange",
+            Refusal::LengthMismatch => "LengthMismatch",
+            Refusal::BadStored => "BadStored",
+        })
     }
 }
 
-#[derive(Clone, Copy)]
-pub enum Answer {
-    Done(usize),
-    Refused(Refusal),
-}
-
-// A record from a count, and a count from a record.
-#[derive(Clone, Copy)]
-pub enum Dated {
-    Made(Record),
-    Refused(Refusal),
-}
-
-#[derive(Clone, Copy)]
-pub enum Counted {
-    Count(i64),
-    Refused(Refusal),
-}
-
 // A format that arrives in runs, between two calls: its length; how many bytes are read for good, and how many of the directive that is not
-// yet wholly read are kept in the store; how far the text came; the refusal's number, or 0; and whether the end was called.
+// yet wholly read are kept in the store; how far the text came; the refusal's number, or 0; and whether the end was called. The number is no Option
+// of a refusal: a caller may hold any, and the promises of `run`, `end` and `answer_of` are of these too.
 #[derive(Clone, Copy)]
 pub struct Runs {
     pub total: usize,
@@ -316,7 +311,7 @@ pub struct Runs {
     pub over: bool,
 }
 
-// What a call answers.
+// What a call answers. No Result of an Option: the three answers are of one kind, and C is told them so.
 #[derive(Clone, Copy)]
 pub enum Progress {
     More,

@@ -6,10 +6,13 @@ use Prim.Native.Nat.{ℕ, ◌≤◌}
 use native.Mathlib.Omega.{arith}
 use lib.ListN.{length, length-take}
 use Rattle.rules.specs.declared.Record.{Record}
+use Rattle.rules.specs.declared.Refusal.{Refusal}
 use Rattle.rules.specs.declared.Runs.{Runs}
+use Rattle.rules.specs.Refusal.{number_of}
 use Rattle.rules.specs.Event.{number_in}
 use Rattle.rules.specs.Runs.{Call, bring, close, Lent, Arrived, checks, Held, held, arrived_of, numbers_of, lent_of, held_after}
 use Rattle.rules.proofs.CheckLaws.{first_of, first_holds}
+use Rattle.rules.proofs.OneAnswer.{number_some}
 use Rattle.rules.proofs.CallLaws.{only_checks, checks_numbered}
 use Rattle.rules.proofs.HeldLaws.{take_front}
 use Rattle.rules.proofs.HeldWays.{held_over, held_no, counted, held_turned, held_read}
@@ -66,13 +69,13 @@ module _ (zone : List ℕ) (time : Record) (s : Runs) (store buffer : List ℕ) 
   unfolding checks
   run_checks_lem bytes = rw e
 
-  module _ (bytes : List ℕ) (o : r.over ≡ false) (z : r.number ≡ 0) (number : ℕ) (f : number ≡ first_of (run_checks r (length bytes) (length zone) (length buffer) (length store))) where
-    pub run_own_lem : (t : Runs) → (number ≡ 0 → ⊥) → t ≡ record { total = r.total; passed = r.passed; kept = r.kept; written = r.written; number = number; over = r.over } →
-        held t store buffer ≡ held_after zone time before (bring bytes)
-    run_own_lem t h q = own (bring bytes) o z number t (f ∙ ap first_of (sym (run_checks_lem bytes))) h q
+  module _ (bytes : List ℕ) (o : r.over ≡ false) (z : r.number ≡ 0) where
+    pub run_own_lem : (answer : Refusal) → number_of answer ≡ first_of (run_checks r (length bytes) (length zone) (length buffer) (length store)) → (t : Runs) →
+        t ≡ record { total = r.total; passed = r.passed; kept = r.kept; written = r.written; number = number_of answer; over = r.over } → held t store buffer ≡ held_after zone time before (bring bytes)
+    run_own_lem answer f t q = own (bring bytes) o z (number_of answer) t (f ∙ ap first_of (sym (run_checks_lem bytes))) (number_some answer) q
 
-    pub run_through : number ≡ 0 → (h : Held) → h ≡ read_in zone time (unread r store) (bring bytes) store buffer → h ≡ held_after zone time before (bring bytes)
-    run_through n h q = through (bring bytes) o z (ap first_of (run_checks_lem bytes) ∙ sym f ∙ n) h q
+    pub run_through : 0 ≡ first_of (run_checks r (length bytes) (length zone) (length buffer) (length store)) → (h : Held) → h ≡ read_in zone time (unread r store) (bring bytes) store buffer → h ≡ held_after zone time before (bring bytes)
+    run_through f h q = through (bring bytes) o z (ap first_of (run_checks_lem bytes) ∙ sym f) h q
 
   -- ## An end
 
@@ -80,10 +83,10 @@ module _ (zone : List ℕ) (time : Record) (s : Runs) (store buffer : List ℕ) 
   unfolding checks
   end_checks_lem = rw e
 
-  module _ (o : r.over ≡ false) (z : r.number ≡ 0) (number : ℕ) (f : number ≡ first_of (end_checks r (length zone) (length buffer))) where
-    pub end_own_lem : (t : Runs) → (number ≡ 0 → ⊥) → t ≡ record { total = r.total; passed = r.passed; kept = r.kept; written = r.written; number = number; over = r.over } →
-        held t store buffer ≡ held_after zone time before close
-    end_own_lem t h q = own close o z number t (f ∙ ap first_of (sym end_checks_lem)) h q
+  module _ (o : r.over ≡ false) (z : r.number ≡ 0) where
+    pub end_own_lem : (answer : Refusal) → number_of answer ≡ first_of (end_checks r (length zone) (length buffer)) → (t : Runs) →
+        t ≡ record { total = r.total; passed = r.passed; kept = r.kept; written = r.written; number = number_of answer; over = r.over } → held t store buffer ≡ held_after zone time before close
+    end_own_lem answer f t q = own close o z (number_of answer) t (f ∙ ap first_of (sym end_checks_lem)) (number_some answer) q
 
-    pub end_through : number ≡ 0 → (h : Held) → h ≡ read_in zone time (unread r store) close store buffer → h ≡ held_after zone time before close
-    end_through n h q = through close o z (ap first_of end_checks_lem ∙ sym f ∙ n) h q
+    pub end_through : 0 ≡ first_of (end_checks r (length zone) (length buffer)) → (h : Held) → h ≡ read_in zone time (unread r store) close store buffer → h ≡ held_after zone time before close
+    end_through f h q = through close o z (ap first_of end_checks_lem ∙ sym f) h q

@@ -1,4 +1,3 @@
 pub mod EntryLaws
-pub mod MoveLaws
 pub mod NumberLaws
 pub mod ReadLaws

@@ -3,34 +3,37 @@ use mathlib.Core.Path.{◌≡◌, sym, ◌∙◌}
 use mathlib.Core.List.{List, ◌++◌}
 use Prim.Native.Nat.{ℕ, ◌+◌, ◌≤◌, ◌<◌}
 use borrow.Author.Tests.{le-leb, lt-leb, leb-true, eq-eqb, ne_eqb, eqb-true}
+use Rattle.rules.specs.declared.Refusal.{Refusal}
 use Rattle.rules.specs.declared.Runs.{Runs}
 use Rattle.rules.specs.Record.{longest_format, longest_buffer}
+use Rattle.rules.specs.Refusal.{number_of}
 use Rattle.rules.specs.Event.{Event, Holds}
 use Rattle.rules.specs.Format.{inputs}
 use Rattle.rules.specs.Runs.{longest_run}
 use Rattle.rules.proofs.FormatLaws.{Numbered}
 use Rattle.rules.proofs.CheckLaws.{OnlyChecks, first_of, first_holds, first_stops, first_passes}
+use Rattle.rules.proofs.OneAnswer.{number_some}
 use Rattle.rules.proofs.CallLaws.{five, ten, four}
 use Rattle.runs.specs.Checks.{Good, start_own, run_own, end_own, start_checks, run_checks, end_checks}
 
 -- the inputs, and then other checks
-module _ (total zone room : ℕ) (es : List Event) (f : ℕ) (e : f ≡ first_of (inputs total zone room)) where
-  inputs_stop : (f ≡ 0 → ⊥) → f ≡ first_of (inputs total zone room ++ es)
-  inputs_stop h = e ∙ sym (first_stops (inputs total zone room) es (λ z. h (e ∙ z)))
+module _ (total zone room : ℕ) (es : List Event) where
+  inputs_stop : (r : Refusal) → number_of r ≡ first_of (inputs total zone room) → number_of r ≡ first_of (inputs total zone room ++ es)
+  inputs_stop r e = e ∙ sym (first_stops (inputs total zone room) es (λ z. number_some r (e ∙ z)))
 
-  inputs_pass : f ≡ 0 → first_of (inputs total zone room ++ es) ≡ first_of es
+  inputs_pass : 0 ≡ first_of (inputs total zone room) → first_of (inputs total zone room ++ es) ≡ first_of es
   unfolding OnlyChecks Numbered
-  inputs_pass z = first_passes (inputs total zone room) es tt (λ e. five, (λ e. five, (λ e. five, tt))) (sym e ∙ z)
+  inputs_pass e = first_passes (inputs total zone room) es tt (λ e. five, (λ e. five, (λ e. five, tt))) (sym e)
 
 -- ## A start
 
-module _ (total zone room store f : ℕ) (e : f ≡ first_of (inputs total zone room)) where
-  pub start_inputs : (f ≡ 0 → ⊥) → f ≡ first_of (start_checks total zone room store)
-  start_inputs h = inputs_stop total zone room (start_own total store) f e h
+module _ (total zone room store : ℕ) where
+  pub start_inputs : (r : Refusal) → number_of r ≡ first_of (inputs total zone room) → number_of r ≡ first_of (start_checks total zone room store)
+  start_inputs = inputs_stop total zone room (start_own total store)
 
-  module _ (z : f ≡ 0) where
+  module _ (e : 0 ≡ first_of (inputs total zone room)) where
     first : first_of (start_checks total zone room store) ≡ first_of (start_own total store)
-    first = inputs_pass total zone room (start_own total store) f e z
+    first = inputs_pass total zone room (start_own total store) e
 
     pub past_store : store < total → 4 ≡ first_of (start_checks total zone room store)
     unfolding first_of
@@ -43,13 +46,13 @@ module _ (total zone room store f : ℕ) (e : f ≡ first_of (inputs total zone 
 -- ## A run
 
 -- the first check that fails, in the order of the tests
-module _ (s : Runs) (count zone room store f : ℕ) (e : f ≡ first_of (inputs s.total zone room)) where
-  pub run_inputs : (f ≡ 0 → ⊥) → f ≡ first_of (run_checks s count zone room store)
-  run_inputs h = inputs_stop s.total zone room (run_own s count room store) f e h
+module _ (s : Runs) (count zone room store : ℕ) where
+  pub run_inputs : (r : Refusal) → number_of r ≡ first_of (inputs s.total zone room) → number_of r ≡ first_of (run_checks s count zone room store)
+  run_inputs = inputs_stop s.total zone room (run_own s count room store)
 
-  module _ (z : f ≡ 0) where
+  module _ (e : 0 ≡ first_of (inputs s.total zone room)) where
     run_first : first_of (run_checks s count zone room store) ≡ first_of (run_own s count room store)
-    run_first = inputs_pass s.total zone room (run_own s count room store) f e z
+    run_first = inputs_pass s.total zone room (run_own s count room store) e
 
     pub run_long : longest_run < count → 5 ≡ first_of (run_checks s count zone room store)
     unfolding first_of
@@ -99,13 +102,13 @@ module _ (s : Runs) (count zone room store : ℕ) where
 
 -- ## An end
 
-module _ (s : Runs) (zone room f : ℕ) (e : f ≡ first_of (inputs s.total zone room)) where
-  pub end_inputs : (f ≡ 0 → ⊥) → f ≡ first_of (end_checks s zone room)
-  end_inputs h = inputs_stop s.total zone room (end_own s room) f e h
+module _ (s : Runs) (zone room : ℕ) where
+  pub end_inputs : (r : Refusal) → number_of r ≡ first_of (inputs s.total zone room) → number_of r ≡ first_of (end_checks s zone room)
+  end_inputs = inputs_stop s.total zone room (end_own s room)
 
-  module _ (z : f ≡ 0) where
+  module _ (e : 0 ≡ first_of (inputs s.total zone room)) where
     end_first : first_of (end_checks s zone room) ≡ first_of (end_own s room)
-    end_first = inputs_pass s.total zone room (end_own s room) f e z
+    end_first = inputs_pass s.total zone room (end_own s room) e
 
     pub end_other_total : (s.passed + s.kept ≡ s.total → ⊥) → 10 ≡ first_of (end_checks s zone room)
     unfolding first_of

@@ -5,35 +5,40 @@
 mod checks;
 mod store;
 
-ghost use Rattle.std.specs.Prelude.{◌≡◌, cond, List, ℕ, min, eqb, length};
-ghost use Rattle.rules.specs.Refusal.{number_of, refusal_at};
+ghost use Rattle.std.specs.Prelude.{◌≡◌, cond, List, ℕ, eqb, length};
+ghost use Rattle.rules.specs.Refusal.{number_of, number_in_check, refusal_at};
 ghost use Rattle.rules.specs.Event.{reach_of, number_in};
 ghost use Rattle.rules.specs.Runs.{bring, close, progressed, held, said_in, arrived_of, numbers_of, begun, held_after};
 ghost use Rattle.text.specs.Ran.{count_at};
 ghost use Rattle.runs.specs.Checks.{Good};
 ghost use Rattle.runs.specs.Read.{unread, read_in};
 
-use checks::{end_number, run_number, start_number};
+use checks::{check_end, check_run, check_start};
 use pending::pending_from;
-use rules::{Progress, Record, Runs};
+use rules::{Progress, Record, Refusal, Runs};
 use store::{move_front, take_in};
 use text::{number_at, reach_at};
 use walk::run_from;
 
-fn smaller_of(a: usize, b: usize) -> usize
-    ensures { result ≡ min a b }
-{
-    if a < b { a } else { b }
-}
-
-// A refusal's number as it is read: one of the table, or 0.
+// A refusal's number as it is read: one of the table, or 0. It stays a number in `Runs`: a caller may hold any, and `run`, `end` and `answer_of` take it.
 fn known(number: usize) -> usize
     ensures { result ≡ cond (eqb number 0) 0 (number_of (refusal_at number)) }
 {
     if number == 0 {
         return 0;
     }
-    rules::number_of(rules::refusal_of(number)) as usize
+    u32::from(rules::refusal_of(number)) as usize
+}
+
+// 0, or the refusal's number.
+#[tactic(auto, unfolding(rules::specs::Refusal::number_in_check))]
+fn number_of_check(check: Result<(), Refusal>) -> usize
+    ensures { result ≡ number_in_check check }
+{
+    match check {
+        Ok(()) => 0,
+        Err(refusal) => u32::from(refusal) as usize,
+    }
 }
 
 // The numbers as they are read, with a store of so many bytes: they may be any.
@@ -41,26 +46,19 @@ fn as_read(s: Runs, store: usize) -> Runs
     ensures { (l : List ℕ) → length l ≡ store → result ≡ numbers_of (arrived_of s l) }
 {
     Runs {
-        total: s.total,
-        passed: s.passed,
-        kept: smaller_of(s.kept, store),
-        written: s.written,
+        kept: s.kept.min(store),
         number: known(s.number),
-        over: s.over,
+        ..s
     }
 }
 
 // Nothing is read: a refusal.
-fn refused(s: Runs, number: usize) -> Runs
-    ensures { result ≡ record { total = s.total; passed = s.passed; kept = s.kept; written = s.written; number = number; over = s.over } }
+fn refused(s: Runs, refusal: Refusal) -> Runs
+    ensures { result ≡ record { total = s.total; passed = s.passed; kept = s.kept; written = s.written; number = number_of refusal; over = s.over } }
 {
     Runs {
-        total: s.total,
-        passed: s.passed,
-        kept: s.kept,
-        written: s.written,
-        number,
-        over: s.over,
+        number: u32::from(refusal) as usize,
+        ..s
     }
 }
 
@@ -87,7 +85,7 @@ pub fn start(total: usize, zone: &[u8], store: &[u8], buffer: &[u8]) -> Runs
         passed: 0,
         kept: 0,
         written: 0,
-        number: start_number(total, zone.len(), buffer.len(), store.len()),
+        number: number_of_check(check_start(total, zone.len(), buffer.len(), store.len())),
         over: false,
     }
 }
@@ -142,9 +140,8 @@ pub fn run(
     if was.number != 0 {
         return was;
     }
-    let number = run_number(was, bytes.len(), zone.len(), buffer.len(), store.len());
-    if number != 0 {
-        return refused(was, number);
+    if let Err(refusal) = check_run(was, bytes.len(), zone.len(), buffer.len(), store.len()) {
+        return refused(was, refusal);
     }
     read_run(was, bytes, zone, record, store, buffer)
 }
@@ -161,9 +158,8 @@ pub fn end(s: Runs, zone: &[u8], record: Record, store: &[u8], buffer: &mut [u8]
         return was;
     }
     let room = buffer.len();
-    let number = end_number(was, zone.len(), room);
-    if number != 0 {
-        return refused(was, number);
+    if let Err(refusal) = check_end(was, zone.len(), room) {
+        return refused(was, refusal);
     }
     let kept = was.kept;
     let place = run_from(
@@ -179,7 +175,7 @@ pub fn end(s: Runs, zone: &[u8], record: Record, store: &[u8], buffer: &mut [u8]
     came(was.total, was.total, 0, place, true)
 }
 
-// What the last call answered.
+// What the last call answered. A `Result` of an `Option` would say its three cases no plainer.
 pub fn answer_of(s: Runs) -> Progress
     ensures { progressed result ≡ said_in s }
 {

@@ -1,14 +1,12 @@
 // The store: what is pending stands in front.
 ghost use Rattle.std.specs.Prelude.{◌≡◌, ◌++◌, ◌+◌, ◌≤◌, length, take, drop};
 
-use text::copy_front;
-
 // The bytes of a run, behind those that are kept.
 pub fn take_in(store: &mut [u8], kept: usize, bytes: &[u8])
     requires { kept + length bytes.now ≤ length store.old }
     ensures { store.new ≡ take kept store.old ++ (bytes.now ++ drop (kept + length bytes.now) store.old) }
 {
-    copy_front(&mut store[kept..], bytes, bytes.len())
+    store[kept..kept + bytes.len()].copy_from_slice(bytes)
 }
 
 // The `count` bytes from `from` on, moved to the front.
@@ -16,10 +14,5 @@ pub fn move_front(store: &mut [u8], from: usize, count: usize)
     requires { from + count ≤ length store.old }
     ensures { store.new ≡ take count (drop from store.old) ++ drop count store.old }
 {
-    let mut j = 0;
-    while j < count {
-        let b = store[from + j];
-        store[j] = b;
-        j += 1;
-    }
+    store.copy_within(from..from + count, 0)
 }

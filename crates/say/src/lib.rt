@@ -1,5 +1,6 @@
 // Added to the original: what the programs say, and an answer by the refusal table of paper 01.
-// `text` and `number` go to standard output, `error` and `error_number` to standard error, and what ends in `_to` to a descriptor.
+// `text`, `number` and `shown` go to standard output, `error` and `error_number` to standard error, and what ends in `_to` to a descriptor. The two
+// outputs have words of their own, since a program says most of what it says by one of them.
 #![tactic(auto)]
 
 mod escape;
@@ -8,7 +9,9 @@ ghost use Rattle.std.specs.Prelude.{◌≡◌};
 ghost use Rattle.rules.specs.Refusal.{numbered};
 
 pub use escape::escaped_to;
-use rules::{Answer, Refusal};
+use rules::Refusal;
+use std::fmt;
+use std::fmt::{Display, Write};
 
 pub const STDOUT_FILENO: i32 = 1;
 
@@ -22,12 +25,31 @@ pub fn number_to(fd: i32, number: u64) {
     io::print_decimal(fd, number);
 }
 
+// A descriptor that text is written to. What fails is passed over, as in `text_to`.
+#[derive(Drop)]
+struct Descriptor(i32);
+
+impl Write for Descriptor {
+    fn write_str(&mut self, text: &str) -> fmt::Result {
+        text_to(self.0, text.as_bytes());
+        Ok(())
+    }
+}
+
+pub fn shown_to(fd: i32, value: impl Display + Drop) {
+    let _ = Descriptor(fd).write(value);
+}
+
 pub fn text(text: &[u8]) {
     text_to(STDOUT_FILENO, text);
 }
 
 pub fn number(number: u64) {
     number_to(STDOUT_FILENO, number);
+}
+
+pub fn shown(value: impl Display + Drop) {
+    shown_to(STDOUT_FILENO, value);
 }
 
 pub fn error(text: &[u8]) {
@@ -38,52 +60,30 @@ pub fn error_number(number: u64) {
     number_to(STDERR_FILENO, number);
 }
 
-fn name_to(fd: i32, refusal: Refusal) {
-    match refusal {
-        Refusal::InvalidTime => text_to(fd, b"InvalidTime"),
-        Refusal::InvalidFormatString => text_to(fd, b"InvalidFormatString"),
-        Refusal::FormattedStringTooLarge => text_to(fd, b"FormattedStringTooLarge"),
-        Refusal::WriteZero => text_to(fd, b"WriteZero"),
-        Refusal::InputTooLong => text_to(fd, b"InputTooLong"),
-        Refusal::NoBuffer => text_to(fd, b"NoBuffer"),
-        Refusal::OutOfRange => text_to(fd, b"OutOfRange"),
-        Refusal::LengthMismatch => text_to(fd, b"LengthMismatch"),
-        Refusal::BadStored => text_to(fd, b"BadStored"),
-    }
-}
-
 // A refusal's number and name.
 pub fn refusal_to(fd: i32, refusal: Refusal) {
-    text_to(fd, b"refusal ");
-    number_to(fd, rules::number_of(refusal) as u64);
-    text_to(fd, b", ");
-    name_to(fd, refusal);
+    let number = u32::from(refusal);
+    shown_to(fd, format_args!("refusal {number}, {refusal}"));
 }
 
 #[tactic(auto, unfolding(rules::specs::Refusal::numbered))]
-pub fn answer_number(answer: Answer) -> u64
+pub fn answer_number(answer: Result<usize, Refusal>) -> u64
     ensures { result ≡ (numbered answer).number }
 {
     match answer {
-        Answer::Done(_) => 0,
-        Answer::Refused(refusal) => rules::number_of(refusal) as u64,
+        Ok(_) => 0,
+        Err(refusal) => u32::from(refusal) as u64,
     }
 }
 
 #[tactic(auto, unfolding(rules::specs::Refusal::numbered))]
-pub fn answer_bytes(answer: Answer) -> usize
+pub fn answer_bytes(answer: Result<usize, Refusal>) -> usize
     ensures { result ≡ (numbered answer).bytes }
 {
-    match answer {
-        Answer::Done(bytes) => bytes,
-        Answer::Refused(_) => 0,
-    }
+    answer.unwrap_or(0)
 }
 
 // The first `count` bytes, or all where there are fewer.
 pub fn front(bytes: &[u8], count: usize) -> &[u8] {
-    if count <= bytes.len() {
-        return &bytes[..count];
-    }
-    bytes
+    bytes.get(..count).unwrap_or(bytes)
 }

@@ -8,8 +8,8 @@ use borrow.Author.Tests.{eq-eqb, ne_eqb}
 use lib.ListN.{length, take, drop}
 use lib.Seq.{drop-drop}
 use Rattle.rules.specs.Stored.{two_of, entries_taken, steps_taken, Sections, sections_by, sections, sections_taken, well_stored}
+use Rattle.std.specs.Prelude.{Option, None}
 use Rattle.sections.specs.declared.Counts.{Counts}
-use Rattle.sections.specs.declared.Counts.TheVariants.{Agree, Disagree}
 use Rattle.sections.specs.Counted.{Agreed, Counted}
 
 -- the sections behind l literal bytes and d directives
@@ -74,14 +74,9 @@ module _ (s : List ℕ) {l d : ℕ} (el : l ≡ two_of (drop 0 s)) (ed : d ≡ t
           bytes = h ∙ ap (λ (k : ℕ). 6 + l + d * 8 + k * 3) (en ∙ sym (ap (λ (x : Sections). x.steps) p));
         }
 
--- ## By the answer
-
-module _ (s : List ℕ) where
-  pub counts_disagree : {c : Counts} → c ≡ Disagree → Counted s c → well_stored s ≡ false
-  counts_disagree e w = rw e at w
-
-  pub counts_agree : {c : Counts} {l d : ℕ} → c ≡ Agree l d → Counted s c → Agreed s l d
-  counts_agree e w = rw e at w
+-- an answer that there are none
+pub disagree : (s : List ℕ) {r : Option Counts} → r ≡ None → well_stored s ≡ false → Counted s r
+disagree s e w = rw e w
 
 -- ## Counts and bytes agree
 
@@ -109,9 +104,3 @@ module _ {s : List ℕ} {l d : ℕ} (w : Agreed s l d) where
 
   pub steps_here : (sections s).from_steps ≡ drop (6 + l + d * 8) s
   steps_here = ap (λ (x : Sections). x.from_steps) here
-
-  -- the same counts, read again
-  pub read_again : {l' d' : ℕ} → l' ≡ two_of (drop 0 s) → d' ≡ two_of (drop (2 + l') s) → (l' ≡ l) × (d' ≡ d)
-  read_again {l'} {d'} el ed =
-      let p = places_at s el ed in
-      (sym (ap (λ (x : Sections). x.literals) p) ∙ sym w.literals, sym (ap (λ (x : Sections). x.directives) p) ∙ sym w.directives)

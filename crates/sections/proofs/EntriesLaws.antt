@@ -2,7 +2,7 @@
 use mathlib.Core.Path.{◌≡◌, refl, sym, ap, ◌∙◌}
 use mathlib.Core.Bool.{Bool, true, false}
 use mathlib.Core.List.{List}
-use Prim.Native.Nat.{ℕ, zero, suc, ◌+◌, ◌-◌, ◌≤◌, ◌<◌}
+use Prim.Native.Nat.{ℕ, zero, suc, ◌+◌, ◌≤◌, ◌<◌}
 use native.Mathlib.Omega.{arith}
 use lib.ListN.{drop}
 use lib.Seq.{drop-drop}
@@ -14,13 +14,9 @@ module _ (s : List ℕ) (i : ℕ) {k : Bool} (taken : k ≡ entry_taken (drop i 
   entries_stop zero h t = absurd (omega arith)
   entries_stop (suc n) h t = let e = sym taken ∙ t in rw e
 
-  pub entries_next : (n : ℕ) → 0 < n → k ≡ true → entries_taken (n - 1) (drop (i + 8) s) ≡ entries_taken n (drop i s)
+  pub entries_next : (n n' i' : ℕ) → n ≡ suc n' → i' ≡ i + 8 → k ≡ true → entries_taken n' (drop i' s) ≡ entries_taken n (drop i s)
   unfolding entries_taken
-  entries_next zero h t = absurd (omega arith)
-  entries_next (suc n) h t =
-      let e = sym taken ∙ t in
-      let m : suc n - 1 ≡ n = omega arith in
-      rw (e, m) (ap (entries_taken n) (sym (drop-drop 8 i s)))
+  entries_next n n' i' p q t = let e = sym taken ∙ t in rw (p, q, e) (ap (entries_taken n') (sym (drop-drop 8 i s)))
 
 pub entries_end : (n : ℕ) (s : List ℕ) → n ≤ 0 → true ≡ entries_taken n s
 unfolding entries_taken

@@ -1,54 +1,65 @@
 // The sections of a stored form (02, request 6): whether counts and bytes agree, and whether directives and steps are taken.
 #![tactic(auto)]
 
-ghost use Rattle.std.specs.Prelude.{◌≡◌, ◌+◌, ◌*◌, ◌≤◌, length, drop};
+ghost use Rattle.std.specs.Prelude.{◌≡◌, ◌+◌, ◌*◌, ◌^◌, ◌≤◌, ◌<◌, length, drop};
 ghost use Rattle.rules.specs.Stored.{entries_taken, steps_taken};
 ghost use Rattle.sections.specs.Counted.{Counted};
 
 use codes::entry::{entry_taken, two_at};
 
-// How many literal bytes and how many directives; or that counts and bytes disagree.
+// How many literal bytes and how many directives.
 #[derive(Clone, Copy)]
-pub enum Counts {
-    Agree(usize, usize),
-    Disagree,
+pub struct Counts {
+    pub literals: usize,
+    pub directives: usize,
 }
 
-pub fn counts_of(s: &[u8]) -> Counts
+impl Counts {
+    // Where the directive with this index starts.
+    pub fn entry_at(self, index: usize) -> usize
+        requires { 4 + self.literals + index * 8 < 2 ^ 64 }
+        ensures { result ≡ 4 + self.literals + index * 8 }
+    {
+        4 + self.literals + index * 8
+    }
+
+    // Where the steps start.
+    pub fn steps_at(self) -> usize
+        requires { 6 + self.literals + self.directives * 8 < 2 ^ 64 }
+        ensures { result ≡ 6 + self.literals + self.directives * 8 }
+    {
+        6 + self.literals + self.directives * 8
+    }
+}
+
+// The counts, if they and the bytes agree.
+pub fn counts_of(s: &[u8]) -> Option<Counts>
     ensures { Counted s.now result }
 {
-    let n = s.len();
-    if n < 6 {
-        return Counts::Disagree;
-    }
+    let left = s.len().checked_sub(6)?;
     let literals = two_at(s, 0);
-    if n < 6 + literals {
-        return Counts::Disagree;
-    }
+    let left = left.checked_sub(literals)?;
     let directives = two_at(s, 2 + literals);
-    if n < 6 + literals + directives * 8 {
-        return Counts::Disagree;
-    }
+    let left = left.checked_sub(directives * 8)?;
     let steps = two_at(s, 4 + literals + directives * 8);
-    if n != 6 + literals + directives * 8 + steps * 3 {
-        return Counts::Disagree;
+    if left != steps * 3 {
+        return None;
     }
-    Counts::Agree(literals, directives)
+    Some(Counts {
+        literals,
+        directives,
+    })
 }
 
-// `count` directives from `at` on, used by a step or not.
+// `count` directives from `at` on, used by a step or not. By positions, as below: `entry_taken` and `two_at` go by those of the whole form.
 pub fn entries_taken(s: &[u8], at: usize, count: usize) -> bool
     requires { at + count * 8 ≤ length s.now }
     ensures { result ≡ entries_taken count (drop at s.now) }
 {
-    let mut i = at;
-    let mut left = count;
-    while 0 < left {
-        if !entry_taken(s, i) {
+    for index in 0..count {
+        if !entry_taken(s, at + index * 8) {
             return false;
         }
-        i += 8;
-        left -= 1;
     }
     true
 }
@@ -58,26 +69,15 @@ pub fn steps_taken(s: &[u8], at: usize, count: usize, directives: usize, literal
     requires { at + count * 3 ≤ length s.now }
     ensures { result ≡ steps_taken count (drop at s.now) directives literals }
 {
-    let mut i = at;
-    let mut left = count;
-    let mut bytes = literals;
-    while 0 < left {
+    let mut left = literals;
+    for index in 0..count {
+        let i = at + index * 3;
         let n = two_at(s, i + 1);
-        if s[i] == 0 {
-            if bytes < n {
-                return false;
-            }
-            bytes -= n;
-        } else {
-            if s[i] != 1 {
-                return false;
-            }
-            if directives <= n {
-                return false;
-            }
+        match s[i] {
+            0 if n <= left => left -= n,
+            1 if n < directives => {}
+            _ => return false,
         }
-        i += 3;
-        left -= 1;
     }
     true
 }

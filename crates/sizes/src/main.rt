@@ -1,84 +1,58 @@
 // Prints paper 01's sizing answers, and what each should be where it is another.
 #![tactic(auto)]
 
-ghost use Rattle.std.specs.Prelude.{◌≤◌};
+use rules::Refusal;
 
-fn say_report(number: u64, bytes: usize) {
-    if number == 0 {
-        say::number(bytes as u64);
-        return;
+fn say_size(size: Result<usize, Refusal>) {
+    match size {
+        Ok(bytes) => say::shown(bytes),
+        Err(refusal) => {
+            let number = u32::from(refusal);
+            say::shown(format_args!("refusal {number}"));
+        }
     }
-    say::text(b"refusal ");
-    say::number(number);
 }
 
-// 1 where the answer is as it should be, else 0.
-fn answers(format: &[u8], longest_zone: usize, number: u64, bytes: usize) -> u64
-    ensures { result ≤ 1 }
-{
-    let answer = sizing::size(format, longest_zone);
-    let given = say::answer_number(answer);
-    let needed = say::answer_bytes(answer);
+// Whether the answer is as it should be.
+fn is_right(format: &[u8], longest_zone: usize, due: Result<usize, Refusal>) -> bool {
+    let given = sizing::size(format, longest_zone);
     say::text(b"`");
     say::text(format);
-    say::text(b"`, zone ");
-    say::number(longest_zone as u64);
-    say::text(b": ");
-    say_report(given, needed);
-    if given == number && needed == bytes {
+    say::shown(format_args!("`, zone {longest_zone}: "));
+    say_size(given);
+    if given == due {
         say::text(b", as it should be\n");
-        return 1;
+        return true;
     }
     say::text(b", but should be ");
-    say_report(number, bytes);
+    say_size(due);
     say::text(b"\n");
-    0
-}
-
-fn size(format: &[u8], bytes: usize) -> u64
-    ensures { result ≤ 1 }
-{
-    answers(format, 0, 0, bytes)
-}
-
-fn refusal(format: &[u8], number: u64) -> u64
-    ensures { result ≤ 1 }
-{
-    answers(format, 0, number, 0)
-}
-
-fn numbers() -> u64
-    ensures { result ≤ 4 }
-{
-    size(b"", 0) + size(b"%Y", 11) + size(b"%s", 20) + size(b"%65536Y", 65536)
-}
-
-fn offsets() -> u64
-    ensures { result ≤ 3 }
-{
-    size(b"%z", 10) + size(b"%12z", 17) + size(b"%:::z", 14)
-}
-
-fn months() -> u64
-    ensures { result ≤ 3 }
-{
-    size(b"%B%-m", 10) + size(b"%B%-m%-m", 12) + size(b"%B%B%-m", 19)
-}
-
-fn zones() -> u64
-    ensures { result ≤ 2 }
-{
-    size(b"%10Z", 0) + answers(b"%10Z", 1, 0, 10)
-}
-
-fn refusals() -> u64
-    ensures { result ≤ 3 }
-{
-    refusal(b"%65537Y", 6) + refusal(b"%", 2) + answers(b"", 65, 5, 0)
+    false
 }
 
 fn main() {
-    let right = numbers() + offsets() + months() + zones() + refusals();
-    say::number(right);
-    say::text(b" of 15 sizes are as they should be\n");
+    let sizes: [(&[u8], usize, Result<usize, Refusal>); 15] = [
+        (b"", 0, Ok(0)),
+        (b"%Y", 0, Ok(11)),
+        (b"%s", 0, Ok(20)),
+        (b"%65536Y", 0, Ok(65536)),
+        (b"%z", 0, Ok(10)),
+        (b"%12z", 0, Ok(17)),
+        (b"%:::z", 0, Ok(14)),
+        (b"%B%-m", 0, Ok(10)),
+        (b"%B%-m%-m", 0, Ok(12)),
+        (b"%B%B%-m", 0, Ok(19)),
+        (b"%10Z", 0, Ok(0)),
+        (b"%10Z", 1, Ok(10)),
+        (b"%65537Y", 0, Err(Refusal::NoBuffer)),
+        (b"%", 0, Err(Refusal::InvalidFormatString)),
+        (b"", 65, Err(Refusal::InputTooLong)),
+    ];
+    let mut right: u64 = 0;
+    for (format, longest_zone, due) in sizes {
+        if is_right(format, longest_zone, due) {
+            right += 1;
+        }
+    }
+    say::shown(format_args!("{right} of 15 sizes are as they should be\n"));
 }

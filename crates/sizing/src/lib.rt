@@ -1,15 +1,14 @@
 // Sizing, which the original hasn't: the exact least buffer of a format.
 #![tactic(auto)]
 
-ghost use Rattle.std.specs.Prelude.{◌≡◌, true, suc, min, max};
+ghost use Rattle.std.specs.Prelude.{◌≡◌, true, suc, min};
 ghost use Rattle.rules.specs.Record.{longest_buffer, within};
 ghost use Rattle.rules.specs.Refusal.{numbered};
 ghost use Rattle.rules.specs.Format.{items, fault};
 ghost use Rattle.rules.specs.Size.{Kept, AnyStamp, GoodStamp, Sizing};
 ghost use Rattle.longest.specs.Witness.{longest_in, length_at, size_of};
 
-use rules::{Answer, LONGEST_BUFFER, LONGEST_FORMAT, LONGEST_ZONE, Record, Refusal};
-use text::is_refused;
+use rules::{LONGEST_BUFFER, LONGEST_FORMAT, LONGEST_ZONE, Record, Refusal};
 use walk::run;
 
 // The record that is longest in every field but the month.
@@ -46,39 +45,27 @@ fn needed(format: &[u8], longest_zone: usize, month: u8) -> usize
         &mut none[..0],
         LONGEST_BUFFER,
     );
-    if is_refused(end) {
-        LONGEST_BUFFER + 1
-    } else {
-        end
-    }
-}
-
-fn greater_of(a: usize, b: usize) -> usize
-    ensures { result ≡ max a b }
-{
-    if a < b { b } else { a }
+    // A refusal's place is behind the longest buffer.
+    end.min(LONGEST_BUFFER + 1)
 }
 
 // The least buffer that holds the text of every record whose zone name has at most `longest_zone` bytes.
-pub fn size(format: &[u8], longest_zone: usize) -> Answer
+pub fn size(format: &[u8], longest_zone: usize) -> Result<usize, Refusal>
     ensures answer { numbered result ≡ size_of format.now longest_zone }
     ensures demand { Sizing (AnyStamp longest_zone) (GoodStamp longest_zone) format.now longest_zone (numbered result) }
 {
     if format.len() > LONGEST_FORMAT {
-        return Answer::Refused(Refusal::InputTooLong);
+        return Err(Refusal::InputTooLong);
     }
     if longest_zone > LONGEST_ZONE {
-        return Answer::Refused(Refusal::InputTooLong);
+        return Err(Refusal::InputTooLong);
     }
-    let fault = reading::fault_of(format);
-    if fault != 0 {
-        return Answer::Refused(rules::refusal_of(fault));
-    }
+    reading::fault_of(format)?;
     let september = needed(format, longest_zone, 9);
     let december = needed(format, longest_zone, 12);
-    let bytes = greater_of(september, december);
+    let bytes = september.max(december);
     if bytes > LONGEST_BUFFER {
-        return Answer::Refused(Refusal::NoBuffer);
+        return Err(Refusal::NoBuffer);
     }
-    Answer::Done(bytes)
+    Ok(bytes)
 }

@@ -9,7 +9,8 @@ use lib.Dec.{leb}
 use lib.ListN.{length, drop, get_or, drop_of_length-le}
 use lib.Seq.{drop-cons}
 use borrow.Author.Tests.{le-leb, lt-leb}
-use Rattle.stamp.specs.declared.number.Number.TheVariants.{Is, Missing}
+use Rattle.std.specs.Prelude.{Some, None}
+use Rattle.rules.specs.Reading.{is_digit}
 use Rattle.stamp.specs.Numbers.{all_digits, number_from, number_behind, number_of}
 
 grows : (bytes : List ℕ) (value : ℕ) → value ≤ number_from value bytes
@@ -17,27 +18,29 @@ unfolding number_from
 grows [] value = omega arith
 grows (b ∷ bytes) value = omega (arith, grows bytes (value * 10 + (b - 48)))
 
-over : (most value : ℕ) (bytes : List ℕ) → most < value → Missing ≡ number_behind most value bytes
+-- a value that is too large, whatever is behind it
+pub over : (most value : ℕ) (bytes : List ℕ) → most < value → None ≡ number_behind most value bytes
 over most value bytes h = go (all_digits bytes) (lt-leb (number_from value bytes) most (omega (arith, grows bytes value)))
   where
-    go : (t : Bool) → leb (number_from value bytes) most ≡ false → Missing ≡ cond (t && leb (number_from value bytes) most) (Is (number_from value bytes)) Missing
+    go : (t : Bool) → leb (number_from value bytes) most ≡ false → None ≡ cond (t && leb (number_from value bytes) most) (Some (number_from value bytes)) None
     go true e = rw e
     go false e = refl
 
 byte_first : (bytes : List ℕ) (at : ℕ) → at < length bytes → drop at bytes ≡ get_or bytes at 0 ∷ drop (at + 1) bytes
 byte_first bytes at h = rw (add-one, drop-cons bytes at 0)
 
-module _ (most : ℕ) (bytes : List ℕ) (from : ℕ) where
-  pub nothing : length bytes ≤ from → Missing ≡ number_of most (drop from bytes)
-  unfolding number_of
-  nothing h = rw (drop_of_length-le bytes h)
+pub opened : (most : ℕ) (bytes : List ℕ) → 0 < length bytes → number_behind most 0 bytes ≡ number_of most bytes
+unfolding number_of
+opened most [] h = absurd (omega arith)
+opened most (b ∷ bytes) h = refl
 
-  pub opened : from < length bytes → number_behind most 0 (drop from bytes) ≡ number_of most (drop from bytes)
-  unfolding number_of
-  opened h = rw (byte_first bytes from h)
+pub nothing : (most : ℕ) (bytes : List ℕ) → length bytes ≡ 0 → None ≡ number_of most bytes
+unfolding number_of
+nothing most [] h = refl
+nothing most (b ∷ bytes) h = absurd (omega arith)
 
 module _ (most value : ℕ) (bytes : List ℕ) (at : ℕ) where
-  pub whole : length bytes ≤ at → value ≤ most → Is value ≡ number_behind most value (drop at bytes)
+  pub whole : length bytes ≤ at → value ≤ most → Some value ≡ number_behind most value (drop at bytes)
   unfolding all_digits number_from
   whole h k = rw (drop_of_length-le bytes h, le-leb _ _ k)
 
@@ -45,17 +48,14 @@ module _ (most value : ℕ) (bytes : List ℕ) (at : ℕ) where
     next : drop at bytes ≡ get_or bytes at 0 ∷ drop (at + 1) bytes
     next = byte_first bytes at h
 
-    pub low : get_or bytes at 0 < 48 → Missing ≡ number_behind most value (drop at bytes)
+    pub other : is_digit (get_or bytes at 0) ≡ false → None ≡ number_behind most value (drop at bytes)
     unfolding all_digits
-    low k = rw (next, lt-leb _ _ k)
+    other e = rw (next, e)
 
-    pub high : 57 < get_or bytes at 0 → Missing ≡ number_behind most value (drop at bytes)
-    unfolding all_digits
-    high k = rw (next, le-leb 48 (get_or bytes at 0) (omega arith), lt-leb _ _ k)
+    module _ (e : is_digit (get_or bytes at 0) ≡ true) (v : ℕ) (is : v ≡ value * 10 + (get_or bytes at 0 - 48)) where
+      pub digit : number_behind most v (drop (at + 1) bytes) ≡ number_behind most value (drop at bytes)
+      unfolding all_digits number_from
+      digit = sym (rw (next, e, is))
 
-    pub digit : 48 ≤ get_or bytes at 0 → get_or bytes at 0 ≤ 57 → number_behind most (value * 10 + (get_or bytes at 0 - 48)) (drop (at + 1) bytes) ≡ number_behind most value (drop at bytes)
-    unfolding all_digits number_from
-    digit l k = sym (rw (next, le-leb _ _ l, le-leb _ _ k))
-
-    pub past : 48 ≤ get_or bytes at 0 → get_or bytes at 0 ≤ 57 → most < value * 10 + (get_or bytes at 0 - 48) → Missing ≡ number_behind most value (drop at bytes)
-    past l k m = over most _ _ m ∙ digit l k
+    pub past : is_digit (get_or bytes at 0) ≡ true → most < value * 10 + (get_or bytes at 0 - 48) → None ≡ number_behind most value (drop at bytes)
+    past e m = over _ _ _ m ∙ digit e _ refl

@@ -9,13 +9,10 @@ use lib.ListN.{length}
 use lib.IntN.{ℤ, pos, negsuc}
 use lib.Signed.{mag}
 use borrow.Author.Tests.{le-leb, ne_eqb}
+use Rattle.std.specs.Prelude.{Option, Some, None}
 use Rattle.rules.specs.Decimal.{digits, decimal_text}
 use Rattle.rules.specs.Reading.{is_digit}
 use Rattle.rules.proofs.DecimalLaws.{digits_small, digits_large, digits_ind, count_pos}
-use Rattle.stamp.specs.declared.number.Number.{Number}
-use Rattle.stamp.specs.declared.number.Number.TheVariants as number
-use Rattle.stamp.specs.declared.number.Signed.{Signed}
-use Rattle.stamp.specs.declared.number.Signed.TheVariants as signed
 use Rattle.stamp.specs.Numbers.{all_digits, number_from, number_of, positive, negative, signed_of, SignedWithin}
 use Rattle.stamp.proofs.SignedLaws.{within}
 
@@ -57,47 +54,47 @@ digits_say = digits_ind (λ (n : ℕ). Say n (digits n)) small large
         })
 
 module _ (most n : ℕ) (h : n ≤ most) where
-  said : (bytes : List ℕ) → 1 ≤ length bytes → Say n bytes → number_of most bytes ≡ number.Is n
+  said : (bytes : List ℕ) → 1 ≤ length bytes → Say n bytes → number_of most bytes ≡ Some n
   unfolding number_of
   said [] k s = absurd (omega arith)
   said (b ∷ bytes) k s = rw (s.all, s.number, le-leb n most h)
 
-  pub read_digits : number_of most (digits n) ≡ number.Is n
+  pub read_digits : number_of most (digits n) ≡ Some n
   read_digits = said (digits n) (count_pos n) (digits_say n)
 
 not_minus : (b : ℕ) (bytes : List ℕ) → all_digits (b ∷ bytes) ≡ true → b ≡ 45 → ⊥
 unfolding all_digits
-not_minus b bytes e k = let z : false ≡ true = rw k at e in let y : ◌≡◌ {A = ℕ} 0 1 = cc in omega arith
+not_minus b bytes e k = let z : false ≡ true = rw k at e in cc
 
 unsigned_text : (most : ℕ) (bytes : List ℕ) → all_digits bytes ≡ true → 1 ≤ length bytes → signed_of most bytes ≡ positive (number_of most bytes)
 unfolding signed_of
 unsigned_text most [] e h = absurd (omega arith)
 unsigned_text most (b ∷ bytes) e h = rw (ne_eqb b 45 (not_minus b bytes e))
 
-pub reads_back : (most : ℕ) (z : ℤ) → mag z ≤ most → signed_of most (decimal_text z) ≡ signed.Is z
+pub reads_back : (most : ℕ) (z : ℤ) → mag z ≤ most → signed_of most (decimal_text z) ≡ Some z
 unfolding decimal_text signed_of
 reads_back most (pos n) h = unsigned_text most (digits n) (digits_say n).all (count_pos n) ∙ ap positive (read_digits most n h)
 reads_back most (negsuc n) h = ap negative (read_digits (most + 1) (suc n) (omega arith))
 
 -- what is read lies in the range
-signed_within : (most : ℕ) (bytes : List ℕ) (z : ℤ) → signed.Is z ≡ signed_of most bytes → mag z ≤ most
+signed_within : (most : ℕ) (bytes : List ℕ) (z : ℤ) → Some z ≡ signed_of most bytes → mag z ≤ most
 unfolding signed_of
-signed_within most [] z e = let y : ◌≡◌ {A = ℕ} 0 1 = cc in omega arith
+signed_within most [] z e = cc
 signed_within most (b ∷ bytes) z e = go (eqb b 45) e
   where
-    plain : (x : Number) → x ≡ number_of most (b ∷ bytes) → signed.Is z ≡ positive x → mag z ≤ most
-    plain (number.Is n) k e = let same : z ≡ pos n = cc in rw same (within most (b ∷ bytes) n k)
-    plain number.Missing k e = let y : ◌≡◌ {A = ℕ} 0 1 = cc in omega arith
+    plain : (x : Option ℕ) → x ≡ number_of most (b ∷ bytes) → Some z ≡ positive x → mag z ≤ most
+    plain (Some n) k e = let same : z ≡ pos n = cc in rw same (within most (b ∷ bytes) n k)
+    plain None k e = cc
 
-    minus : (x : Number) → x ≡ number_of (most + 1) bytes → signed.Is z ≡ negative x → mag z ≤ most
-    minus (number.Is zero) k e = let same : z ≡ pos 0 = cc in rw same (omega arith)
-    minus (number.Is (suc n)) k e = let same : z ≡ negsuc n = cc in rw same (omega (arith, within (most + 1) bytes (suc n) k))
-    minus number.Missing k e = let y : ◌≡◌ {A = ℕ} 0 1 = cc in omega arith
+    minus : (x : Option ℕ) → x ≡ number_of (most + 1) bytes → Some z ≡ negative x → mag z ≤ most
+    minus (Some zero) k e = let same : z ≡ pos 0 = cc in rw same (omega arith)
+    minus (Some (suc n)) k e = let same : z ≡ negsuc n = cc in rw same (omega (arith, within (most + 1) bytes (suc n) k))
+    minus None k e = cc
 
-    go : (t : Bool) → signed.Is z ≡ cond t (negative (number_of (most + 1) bytes)) (positive (number_of most (b ∷ bytes))) → mag z ≤ most
+    go : (t : Bool) → Some z ≡ cond t (negative (number_of (most + 1) bytes)) (positive (number_of most (b ∷ bytes))) → mag z ≤ most
     go true e = minus _ refl e
     go false e = plain _ refl e
 
-pub in_range : (most : ℕ) (bytes : List ℕ) (x : Signed) → x ≡ signed_of most bytes → SignedWithin most x
-in_range most bytes (signed.Is z) e = signed_within most bytes z e
-in_range most bytes signed.Missing e = tt
+pub in_range : (most : ℕ) (bytes : List ℕ) (x : Option ℤ) → x ≡ signed_of most bytes → SignedWithin most x
+in_range most bytes (Some z) e = signed_within most bytes z e
+in_range most bytes None e = tt

@@ -1,5 +1,5 @@
 -- The items of a format, by positions.
-use Rattle.std.specs.Prelude.{◌≡◌, true, false, cond, List, ℕ, ◌+◌, ◌≤◌, ◌<◌, eqb, length, drop, get_or}
+use Rattle.std.specs.Prelude.{◌≡◌, Bool, true, false, cond, List, ℕ, ◌+◌, ◌≤◌, eqb, length, drop, get_or, Option, Some, None}
 use Rattle.rules.specs.declared.Reading.TheVariants.{InFlags}
 use Rattle.rules.specs.declared.Parsed.{Parsed}
 use Rattle.rules.specs.declared.Parsed.TheVariants.{Directive, Echo, Cut}
@@ -7,28 +7,27 @@ use Rattle.rules.specs.Ascii.{byte}
 use Rattle.rules.specs.Reading.{outset}
 use Rattle.rules.specs.Format.{parse_from}
 use Rattle.stamp.specs.declared.item.Item.{Item}
-use Rattle.stamp.specs.declared.refused.Place.{Place}
-use Rattle.stamp.specs.declared.refused.Place.TheVariants.{At, Nowhere}
+use Rattle.stamp.specs.declared.item.Items.{Items}
 
--- by what is parsed after a percent sign, in a format of `length` bytes
-abbrev pub item_by : ℕ → Parsed → Item
-item_by length (Directive p next) = record { end = next; echoed = false }
-item_by length (Echo next) = record { end = next; echoed = true }
-item_by length Cut = record { end = length; echoed = false }
+-- by what is parsed after a percent sign, in a format of `length` bytes: where the item ends, and whether it is an echo
+abbrev pub item_by : ℕ → Parsed → ℕ × Bool
+item_by length (Directive p next) = (next, false)
+item_by length (Echo next) = (next, true)
+item_by length Cut = (length, false)
 
-unfoldable pub item_at : List ℕ → ℕ → Item
+unfoldable pub item_at : List ℕ → ℕ → ℕ × Bool
 item_at format at =
     cond (eqb (get_or format at 0) (byte "%"))
     (item_by (length format) (parse_from (InFlags outset) (at + 1) (drop (at + 1) format)))
-    (record { end = at + 1; echoed = false })
+    (at + 1, false)
 
 -- the item that begins at a position
 pub record Stands (format : List ℕ) (at : ℕ) (item : Item) : Type 0 where
-  pub right : item ≡ item_at format at
-  pub onward : at < item.end
-  pub within : item.end ≤ length format
+  pub right : (item.end, item.echoed) ≡ item_at format at
+  pub start : item.start ≡ at
+  pub text : item.format.now ≡ format
 
--- where an item stands
-abbrev pub PlaceWithin : ℕ → Place → Type 0
-PlaceWithin length (At start end) = (start < end) × (end ≤ length)
-PlaceWithin length Nowhere = Unit {0}
+-- a call gave the item that begins at the position, and went on to its end; or nothing, at the end of the format
+abbrev pub GivesItem : Items → Option Item → Items → Type 0
+GivesItem s (Some item) t = Stands s.format.now s.at item × (t.at ≡ item.end) × (t.format ≡ s.format)
+GivesItem s None t = (length s.format.now ≤ s.at) × (t ≡ s)

@@ -1,7 +1,8 @@
 // The instant that is asked for.
 use crate::show::show;
-use rules::{Dated, Refusal};
+use rules::Refusal;
 use say::STDERR_FILENO;
+use std::num::NonZeroUsize;
 
 // A sum beyond an i64 has such a year too.
 fn say_no_record(refusal: Refusal) {
@@ -15,16 +16,13 @@ fn say_no_record(refusal: Refusal) {
 }
 
 // Where the offset is 0 the zone is UTC. The name of any other isn't known.
-pub fn show_at(format: &[u8], count: i64, offset: i32, run_length: usize) {
+pub fn show_at(format: &[u8], count: i64, offset: i32, run_length: Option<NonZeroUsize>) {
     let is_utc = offset == 0;
     match calendar::record_from_count(count, offset, 0, is_utc) {
-        Dated::Made(record) => {
-            if is_utc {
-                show(format, b"UTC", record, run_length);
-            } else {
-                show(format, b"", record, run_length);
-            }
+        Ok(record) => {
+            let zone: &[u8] = if is_utc { b"UTC" } else { b"" };
+            show(format, zone, record, run_length);
         }
-        Dated::Refused(refusal) => say_no_record(refusal),
+        Err(refusal) => say_no_record(refusal),
     }
 }

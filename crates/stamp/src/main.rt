@@ -14,31 +14,29 @@ mod stored;
 mod usage;
 mod watch;
 
-use arguments::Asked;
 use rules::Refusal;
 use say::STDERR_FILENO;
 use std::env::Env;
-
-// Only four whole words are options, so that a format may begin with two dashes.
-fn run(word: &[u8]) {
-    if check::same(word, b"--help") {
-        usage::say_usage();
-        return;
-    }
-    if check::same(word, b"--version") {
-        usage::say_version();
-        return;
-    }
-    sample::show_sample(word, 0);
-}
+use std::num::NonZeroUsize;
 
 fn say_too_long() {
     say::refusal_to(STDERR_FILENO, Refusal::InputTooLong);
     say::error(b": the format has more than 65536 bytes, and 4096 are the most\n");
 }
 
+// What is done with word `i`, unless it is longer than any format.
+fn with_word<F: FnOnce(&[u8])>(rt: &impl Env, i: usize, then: F)
+    requires { F.IsAlwaysCallable then }
+{
+    let mut word = io::large_buffer();
+    match rt.arg(i, &mut word) {
+        Ok(count) => then(&word[..count]),
+        Err(_) => say_too_long(),
+    }
+}
+
 // COUNT is word `i`, if there is one, and behind it comes at most OFFSET.
-fn run_at(rt: &impl Env, format: &[u8], i: usize, words: usize, run_length: usize) {
+fn run_at(rt: &impl Env, format: &[u8], i: usize, words: usize, run_length: Option<NonZeroUsize>) {
     if words <= i {
         sample::show_sample(format, run_length);
         return;
@@ -47,7 +45,7 @@ fn run_at(rt: &impl Env, format: &[u8], i: usize, words: usize, run_length: usiz
         usage::say_words();
         return;
     }
-    if let Asked::Time(count, offset) = arguments::read_time(rt, i, words) {
+    if let Some((count, offset)) = arguments::read_time(rt, i, words) {
         instant::show_at(format, count, offset, run_length);
     }
 }
@@ -59,15 +57,9 @@ fn run_in_runs(rt: &impl Env, words: usize) {
         return;
     }
     let run_length = arguments::read_run_length(rt, 2);
-    if run_length == 0 {
-        return;
+    if run_length.is_some() {
+        with_word(rt, 3, |format| run_at(rt, format, 4, words, run_length));
     }
-    let mut word = io::large_buffer();
-    let Ok(count) = rt.arg(3, &mut word) else {
-        say_too_long();
-        return;
-    };
-    run_at(rt, &word[..count], 4, words, run_length);
 }
 
 // The format is the second word, and the last.
@@ -76,12 +68,18 @@ fn run_stored(rt: &impl Env, words: usize) {
         usage::say_words();
         return;
     }
-    let mut word = io::large_buffer();
-    let Ok(count) = rt.arg(2, &mut word) else {
-        say_too_long();
-        return;
-    };
-    stored::show_stored(&word[..count]);
+    with_word(rt, 2, stored::show_stored);
+}
+
+// Only four whole words are options, so that a format may begin with two dashes.
+fn run(rt: &impl Env, word: &[u8], words: usize) {
+    match word {
+        b"--runs" => run_in_runs(rt, words),
+        b"--stored" => run_stored(rt, words),
+        b"--help" if words == 2 => usage::say_usage(),
+        b"--version" if words == 2 => usage::say_version(),
+        format => run_at(rt, format, 2, words, None),
+    }
 }
 
 fn main(rt: HostRuntime) {
@@ -90,22 +88,5 @@ fn main(rt: HostRuntime) {
         usage::say_usage();
         return;
     }
-    let mut word = io::large_buffer();
-    let Ok(count) = rt.arg(1, &mut word) else {
-        say_too_long();
-        return;
-    };
-    if check::same(&word[..count], b"--runs") {
-        run_in_runs(&rt, words);
-        return;
-    }
-    if check::same(&word[..count], b"--stored") {
-        run_stored(&rt, words);
-        return;
-    }
-    if words > 2 {
-        run_at(&rt, &word[..count], 2, words, 0);
-        return;
-    }
-    run(&word[..count]);
+    with_word(&rt, 1, |word| run(&rt, word, words));
 }

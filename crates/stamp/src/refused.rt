@@ -1,33 +1,9 @@
 // Where a format is refused, and why.
 ghost use Rattle.std.specs.Prelude.{◌≤◌, length};
-ghost use Rattle.stamp.specs.Items.{PlaceWithin};
 
-use crate::item::{item_at, say_item_to};
-use rules::{Answer, Record, Refusal};
+use crate::item::{Item, Items};
+use rules::{LONGEST_FORMAT, Record, Refusal};
 use say::STDERR_FILENO;
-
-// From where to where an item stands in the format.
-#[derive(Clone, Copy)]
-enum Place {
-    At(usize, usize),
-    Nowhere,
-}
-
-// The last item of the shortest front of the format that is refused. A front is made of whole items.
-fn refused_item(format: &[u8], zone: &[u8], record: Record, buffer: &mut [u8]) -> Place
-    ensures { PlaceWithin (length format.now) result }
-{
-    let mut at = 0;
-    while at < format.len() {
-        let item = item_at(format, at);
-        let end = item.end;
-        if let Answer::Refused(_) = strftime::format(&format[..end], zone, record, buffer) {
-            return Place::At(at, end);
-        }
-        at = end;
-    }
-    Place::Nowhere
-}
 
 fn say_why(refusal: Refusal, format: &[u8])
     requires { length format.now ≤ 4096 }
@@ -47,14 +23,10 @@ fn say_why(refusal: Refusal, format: &[u8])
     }
 }
 
-fn say_place(refusal: Refusal, format: &[u8], zone: &[u8], record: Record, buffer: &mut [u8])
+fn say_place(refusal: Refusal, format: &[u8], item: Item)
     requires { length format.now ≤ 4096 }
 {
-    let Place::At(start, end) = refused_item(format, zone, record, buffer) else {
-        say::error(b"no front of the format is refused\n");
-        return;
-    };
-    say_item_to(STDERR_FILENO, format, start, end);
+    item.say_to(STDERR_FILENO);
     say_why(refusal, format);
     say::error(b"\n");
 }
@@ -65,40 +37,30 @@ fn say_too_long(format: &[u8]) {
     say::error(b" bytes, and 4096 are the most\n");
 }
 
-pub fn explain(refusal: Refusal, format: &[u8], zone: &[u8], record: Record, buffer: &mut [u8]) {
+// `find` finds the item that the format is refused for.
+fn explain_by<'a, F: FnOnce() -> Option<Item<'a>>>(refusal: Refusal, format: &'a [u8], find: F)
+    requires { F.IsAlwaysCallable find }
+{
     say::refusal_to(STDERR_FILENO, refusal);
     say::error(b": ");
-    if format.len() > 4096 {
+    if format.len() > LONGEST_FORMAT {
         say_too_long(format);
         return;
     }
-    say_place(refusal, format, zone, record, buffer);
+    match find() {
+        Some(item) => say_place(refusal, format, item),
+        None => say::error(b"no front of the format is refused\n"),
+    }
 }
 
-// Where the last item starts.
-fn last_item(format: &[u8]) -> usize {
-    let mut last = 0;
-    let mut at = 0;
-    while at < format.len() {
-        last = at;
-        let item = item_at(format, at);
-        at = item.end;
-    }
-    last
+// By the last item of the shortest front of the format that is refused. A front is made of whole items.
+pub fn explain(refusal: Refusal, format: &[u8], zone: &[u8], record: Record, buffer: &mut [u8]) {
+    explain_by(refusal, format, || {
+        Items::of(format).find(|item| strftime::format(item.front(), zone, record, buffer).is_err())
+    });
 }
 
 // Of a format that is compiled, whatever the record: it ends inside a directive in its last item.
 pub fn explain_cut(refusal: Refusal, format: &[u8]) {
-    say::refusal_to(STDERR_FILENO, refusal);
-    say::error(b": ");
-    if format.len() > 4096 {
-        say_too_long(format);
-        return;
-    }
-    let start = last_item(format);
-    if start < format.len() {
-        say_item_to(STDERR_FILENO, format, start, format.len());
-        say_why(refusal, format);
-        say::error(b"\n");
-    }
+    explain_by(refusal, format, || Items::of(format).last());
 }

@@ -1,6 +1,7 @@
 // The time that is stamped where none is asked for.
 use crate::show::show;
-use rules::{Answer, Record};
+use rules::{Record, Refusal};
+use std::num::NonZeroUsize;
 
 fn record() -> Record {
     Record {
@@ -19,10 +20,10 @@ fn record() -> Record {
     }
 }
 
-pub fn stamp(format: &[u8], buffer: &mut [u8]) -> Answer {
+pub fn stamp(format: &[u8], buffer: &mut [u8]) -> Result<usize, Refusal> {
     strftime::format(format, b"CET", record(), buffer)
 }
 
-pub fn show_sample(format: &[u8], run_length: usize) {
+pub fn show_sample(format: &[u8], run_length: Option<NonZeroUsize>) {
     show(format, b"CET", record(), run_length);
 }

@@ -2,7 +2,7 @@
 use crate::instant::show_at;
 use crate::sample::{show_sample, stamp};
 use crate::stored::show_stored;
-use rules::Answer;
+use std::num::NonZeroUsize;
 
 pub fn say_version() {
     say::text(b"groatsaddle 0.1.0: the formatter of strftime-ruby in Rattle, proved\n");
@@ -10,7 +10,7 @@ pub fn say_version() {
 
 fn say_line(format: &[u8]) {
     let mut buffer = [0u8; 128];
-    if let Answer::Done(bytes) = stamp(format, &mut buffer) {
+    if let Ok(bytes) = stamp(format, &mut buffer) {
         say::text(say::front(&buffer, bytes));
     }
 }
@@ -50,13 +50,13 @@ fn say_stored() {
 
 fn say_examples() {
     say::text(b"$ stamp '%A, %-d %B %Y'\n");
-    show_sample(b"%A, %-d %B %Y", 0);
+    show_sample(b"%A, %-d %B %Y", None);
     say::text(b"$ stamp '%F %T %Z' 1735574709\n");
-    show_at(b"%F %T %Z", 1735574709, 0, 0);
+    show_at(b"%F %T %Z", 1735574709, 0, None);
     say::text(b"$ stamp '%F %T %:z' 1735574709 -18000\n");
-    show_at(b"%F %T %:z", 1735574709, -18000, 0);
+    show_at(b"%F %T %:z", 1735574709, -18000, None);
     say::text(b"$ stamp --runs 4 'on %A, %-d %B'\n");
-    show_sample(b"on %A, %-d %B", 4);
+    show_sample(b"on %A, %-d %B", NonZeroUsize::new(4));
     say::text(b"$ stamp --stored '%F %T'\n");
     show_stored(b"%F %T");
     say::text(b"\n");

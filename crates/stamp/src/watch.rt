@@ -1,8 +1,7 @@
 // A format in runs, as a bus would bring it: what the buffer holds after each.
-ghost use Rattle.std.specs.Prelude.{◌≤◌, ◌<◌};
-
 use rules::{Progress, Record, Runs};
 use say::STDOUT_FILENO;
+use std::num::NonZeroUsize;
 
 // The bytes of a text that are shown, at most: its last ones.
 const MOST: usize = 160;
@@ -24,10 +23,7 @@ fn say_last(text: &[u8]) {
 }
 
 fn is_refused(s: Runs) -> bool {
-    match runs::answer_of(s) {
-        Progress::Refused(_) => true,
-        _ => false,
-    }
+    matches!(runs::answer_of(s), Progress::Refused(_))
 }
 
 fn say_held(s: Runs, store: &[u8], buffer: &[u8]) {
@@ -43,45 +39,27 @@ fn say_held(s: Runs, store: &[u8], buffer: &[u8]) {
     say::text(b"\n");
 }
 
-// Where a run from `at` on ends.
-fn run_end(at: usize, run_length: usize, total: usize) -> usize
-    requires { (at < total) × (0 < run_length) }
-    ensures { (at < result) × (result ≤ total) }
-{
-    if total - at < run_length {
-        return total;
-    }
-    at + run_length
-}
-
 fn watch_runs(
     format: &[u8],
-    run_length: usize,
+    run_length: NonZeroUsize,
     zone: &[u8],
     record: Record,
     store: &mut [u8],
     buffer: &mut [u8],
-) -> Runs
-    requires { 0 < run_length }
-{
+) -> Runs {
     let mut s = runs::start(format.len(), zone, store, buffer);
-    let mut at = 0;
-    while at < format.len() {
+    for bytes in format.chunks(run_length.get()) {
         if is_refused(s) {
             return s;
         }
-        let end = run_end(at, run_length, format.len());
-        s = runs::run(s, &format[at..end], zone, record, store, buffer);
-        say_quoted(&format[at..end]);
+        s = runs::run(s, bytes, zone, record, store, buffer);
+        say_quoted(bytes);
         say_held(s, store, buffer);
-        at = end;
     }
     s
 }
 
-pub fn watch(format: &[u8], run_length: usize, zone: &[u8], record: Record)
-    requires { 0 < run_length }
-{
+pub fn watch(format: &[u8], run_length: NonZeroUsize, zone: &[u8], record: Record) {
     let mut store = [0u8; 4096];
     let mut buffer = io::large_buffer();
     let s = watch_runs(format, run_length, zone, record, &mut store, &mut buffer);

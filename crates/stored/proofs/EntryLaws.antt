@@ -1,4 +1,5 @@
 -- The directive that 8 bytes are, for each way that it is written by.
+use Rattle.std.specs.Prelude.{Some, None}
 use mathlib.Core.Path.{◌≡◌, refl, sym, ap, subst, ◌∙◌}
 use mathlib.Core.List.{List, [], ◌∷◌}
 use Prim.Native.Nat.{ℕ, ◌/◌, ◌%◌, ◌<◌}
@@ -7,7 +8,6 @@ use native.Mathlib.Omega.{arith}
 use borrow.Author.Tests.{ne_eqb}
 use lib.IntN.{pos}
 use lib.ListN.{get_or}
-use Rattle.rules.specs.declared.Entry.TheVariants.{Is, Missing}
 use Rattle.rules.specs.declared.Piece.{Piece}
 use Rattle.rules.specs.declared.Record.{Record}
 use Rattle.rules.specs.declared.Spec.{Spec}
@@ -28,13 +28,13 @@ use Rattle.codes.specs.Eight.{Eight}
 -- ## A letter
 
 -- a byte that the table has not
-none_has : (k : ℕ) {spec : Spec} → spec_of k ≡ Missing → spec_of k ≡ Is spec → ⊥
+none_has : (k : ℕ) {spec : Spec} → spec_of k ≡ None → spec_of k ≡ Some spec → ⊥
 none_has k p q = let z : ◌≡◌ {A = ℕ} 0 1 = cc in omega arith
 
-other_byte : {b : ℕ} {spec : Spec} (k : ℕ) → spec_of b ≡ Is spec → spec_of k ≡ Missing → b ≡ k → ⊥
+other_byte : {b : ℕ} {spec : Spec} (k : ℕ) → spec_of b ≡ Some spec → spec_of k ≡ None → b ≡ k → ⊥
 other_byte k e m q = none_has k m (ap spec_of (sym q) ∙ e)
 
-letter_some : (b : ℕ) {spec : Spec} → spec_of b ≡ Is spec → 0 < b
+letter_some : (b : ℕ) {spec : Spec} → spec_of b ≡ Some spec → 0 < b
 unfolding possible_specs look_up
 letter_some b e =
     elim (dec_lt 0 b) [
@@ -42,7 +42,7 @@ letter_some b e =
       | no h ↦ absurd (other_byte {b = b} 0 e refl (omega arith))
     ]
 
-coded_letter : (b : ℕ) {spec : Spec} → spec_of b ≡ Is spec → coded_spec b ≡ Is spec
+coded_letter : (b : ℕ) {spec : Spec} → spec_of b ≡ Some spec → coded_spec b ≡ Some spec
 unfolding coded_spec possible_specs look_up
 coded_letter b e =
     let p = ne_eqb b 1 (other_byte 1 e refl) in
@@ -54,7 +54,7 @@ coded_letter b e =
 
 module _ {s : List ℕ} {n : ℕ} (w : Eight s n) where
   -- a code and zeros
-  plain_entry : {spec : Spec} → n < 256 → coded_spec n ≡ Is spec → entry_of s ≡ plain_piece spec
+  plain_entry : {spec : Spec} → n < 256 → coded_spec n ≡ Some spec → entry_of s ≡ plain_piece spec
   unfolding entry_of
   plain_entry {spec} h e =
       let c : get_or s 0 0 ≡ n = omega (arith, w.code) in
@@ -64,7 +64,7 @@ module _ {s : List ℕ} {n : ℕ} (w : Eight s n) where
       rw (c, p, f, t, e)
 
   -- a code and the left flag
-  left_entry : {spec : Spec} → n / 256 ≡ 256 → coded_spec (n % 256) ≡ Is spec → entry_of s ≡ left_piece spec
+  left_entry : {spec : Spec} → n / 256 ≡ 256 → coded_spec (n % 256) ≡ Some spec → entry_of s ≡ left_piece spec
   unfolding entry_of
   left_entry {spec} h e =
       let c : get_or s 0 0 ≡ n % 256 = omega (arith, w.code) in
@@ -89,9 +89,6 @@ module _ (r : Record) (zone s : List ℕ) {limit room : ℕ} {l l' : List ℕ} {
 
   pub by_short : {e b v : ℕ} → Eight s e → e / 256 ≡ 256 → b ≡ e % 256 → Short r b v → Ran limit room (write (put (decimal_text (pos v))) ∷ []) l n l' n' → Ran limit room (events_of r zone (entry_of s)) l n l' n'
   by_short {b = b} w h q t v = ran_as (left_entry w h (ap coded_spec (sym q) ∙ coded_letter b t.entry)) (t.runs zone v)
-
-  pub by_piece : {p : Piece} → p ≡ entry_of s → Ran limit room (events_of r zone p) l n l' n' → Ran limit room (events_of r zone (entry_of s)) l n l' n'
-  by_piece e v = same_events (ap (events_of r zone) e) v
 
 -- after an answer that left the list alone
 pub by_other : {es : List Event} {limit room : ℕ} {l₁ l l' : List ℕ} {n n' : ℕ} → l₁ ≡ l → Ran limit room es l₁ n l' n' → Ran limit room es l n l' n'

@@ -1,4 +1,5 @@
 -- What the entry answers, and the buffer afterwards, where `strftime`'s laws don't say it: 11, and a stored form that is run.
+use Rattle.std.specs.Prelude.{Err}
 use mathlib.Core.Path.{◌≡◌, refl, sym, ap, subst, ◌∙◌}
 use mathlib.Core.Bool.{Bool, true, false, ◌&&◌}
 use mathlib.Core.List.{List}
@@ -8,7 +9,6 @@ use lib.ListN.{length, drop}
 use Rattle.rules.specs.declared.Record.{Record}
 use Rattle.rules.specs.declared.Refusal.{Refusal}
 use Rattle.rules.specs.declared.Refusal.TheVariants.{BadStored}
-use Rattle.rules.specs.declared.Answer.TheVariants.{Refused}
 use Rattle.rules.specs.Record.{longest_format, longest_zone, longest_buffer}
 use Rattle.rules.specs.Refusal.{number_of, refusal_at, numbered}
 use Rattle.rules.specs.Event.{text_of, at, number_in, run, reported, buffer_after}
@@ -42,7 +42,7 @@ module _ {s : List ℕ} {l d : ℕ} (w : Agreed s l d) {k : Bool} (e : k ≡ ent
 -- ## The outcome
 
 module _ (s : List ℕ) (n : ℕ) (zone : List ℕ) (r : Record) (room : ℕ) (f : n ≤ longest_format) (z : length zone ≤ longest_zone) (b : room ≤ longest_buffer) where
-  pub unfit : (before : List ℕ) → well_stored s ≡ false → Promised (formatted_stored s n zone r room) before (Refused BadStored) before
+  pub unfit : (before : List ℕ) → well_stored s ≡ false → Promised (formatted_stored s n zone r room) before (Err BadStored) before
   unfolding numbered number_of reported buffer_after
   unfit before e = rw (bad_stored s n zone r room f z b e) (refl, refl)
 

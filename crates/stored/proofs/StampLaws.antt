@@ -10,6 +10,8 @@ use borrow.Author.Tests.{le-leb}
 use lib.ListN.{length, take, drop}
 use Rattle.rules.specs.declared.Piece.{Piece}
 use Rattle.rules.specs.declared.Record.{Record}
+use Rattle.rules.specs.declared.Refusal.TheVariants.{BadStored}
+use Rattle.rules.specs.Refusal.{number_of}
 use Rattle.rules.specs.Event.{put, Event, write, check, judged, bytes_of, text_of, at, no as refusal, one, write_at, room_for, tally, run}
 use Rattle.rules.specs.Writing.{events_of}
 use Rattle.rules.specs.Stored.{text, piece, part_events, steps_of, entries_of, steps_taken, sections, loaded}
@@ -40,7 +42,8 @@ module _ {limit : ℕ} {es : List Event} {ok : Bool} {number : ℕ} {l b l' b' :
       })
 
 -- the place of a check that fails before any text
-pub judged_first : {n : ℕ} → ((limit room : ℕ) (l : List ℕ) → Ran limit room (judged 11 ∷ []) l 0 l n) → count_at n ≡ refusal 11 0
+pub judged_first : {n : ℕ} → ((limit room : ℕ) (l : List ℕ) → Ran limit room (judged (number_of BadStored) ∷ []) l 0 l n) → count_at n ≡ refusal 11 0
+unfolding number_of
 judged_first w = (w 0 0 []).count ∙ ap (tally 0 0 (judged 11 ∷ [])) (count_at_lem 0 (omega arith)) ∙ stop_first 0 0 [] 11 0
 
 far : {n number reach : ℕ} → count_at n ≡ refusal number reach → 65536 < n
@@ -134,7 +137,7 @@ module _ {limit : ℕ} {r : Record} {zone s : List ℕ} {i from n : ℕ} {l b : 
     pub rest_written : {b₁ b' : List ℕ} {m' : ℕ} → m ≤ 65536 → b₁ ≡ take n (x ++ l) ++ drop n b → Ran limit (length b) (part_events (events_of r zone) (parts_from s i from)) b₁ n b' m' → Stamped limit (all_events r zone s) l b (x ++ l) b' m'
     rest_written h q u = passes_first (w.taken ∙ t) (rw (sym w.rest) at (front_written {b = b} g w.front v h q u))
 
-  pub rest_bad : taken_from s i from ≡ false → {k : ℕ} → ((limit room : ℕ) (l : List ℕ) → Ran limit room (judged 11 ∷ []) l 0 l k) → Stamped limit (all_events r zone s) l b l b k
+  pub rest_bad : taken_from s i from ≡ false → {k : ℕ} → ((limit room : ℕ) (l : List ℕ) → Ran limit room (judged (number_of BadStored) ∷ []) l 0 l k) → Stamped limit (all_events r zone s) l b l b k
   rest_bad t v = fails_first (w.taken ∙ t) (judged_first v) refl
 
 -- ## The loop
@@ -153,7 +156,7 @@ module _ {limit : ℕ} {r : Record} {zone s l₀ b₀ : List ℕ} {i from : ℕ}
   stamping_room = record { within = omega (arith, w.scratch, g.within); small = g.small }
 
   -- a step that isn't taken
-  pub stamping_bad : taken_from s i from ≡ false → {k : ℕ} → ((limit room : ℕ) (l : List ℕ) → Ran limit room (judged 11 ∷ []) l 0 l k) → Stamped limit (all_events r zone s) l₀ b₀ l b k
+  pub stamping_bad : taken_from s i from ≡ false → {k : ℕ} → ((limit room : ℕ) (l : List ℕ) → Ran limit room (judged (number_of BadStored) ∷ []) l 0 l k) → Stamped limit (all_events r zone s) l₀ b₀ l b k
   stamping_bad t v = stamped_from {l = l₀} refl w.buffer (fails_first (w.begun.taken ∙ t) (judged_first v) w.scratch)
 
   pub stamping_text : {t l' : List ℕ} {to m : ℕ} {ended : Bool} → Step s i from to (text t) → Copied t l n l' ended → ended ≡ true → m ≡ n + length t → Stamping limit r zone s l₀ b₀ (i + 3) to l' b m
@@ -165,10 +168,10 @@ module _ {limit : ℕ} {r : Record} {zone s l₀ b₀ : List ℕ} {i from : ℕ}
       record { begun = begun_piece w.begun v u (omega arith) (omega (arith, stamping_room.within, g.small)); scratch = long ∙ w.scratch; buffer = w.buffer }
 
   -- what `rest` asks, where a step has changed the scratch behind the place only
-  pub handed_over : {l' : List ℕ} {k d : ℕ} → Agreed s k d → take n l' ≡ take n l → length l' ≡ length l → Room l' (length b) × Agreed s (sections s).literals (sections s).directives × Begun limit (length b) r zone s i from l' n
+  pub handed_over : {l' : List ℕ} {k d : ℕ} → Agreed s k d → take n l' ≡ take n l → length l' ≡ length l → Room l' (length b) × Agreed s k d × Begun limit (length b) r zone s i from l' n
   handed_over a e k = (
     record { within = omega (arith, w.scratch, g.within, ap length w.buffer); small = omega (arith, g.small, ap length w.buffer) },
-    record { literals = refl; directives = refl; bytes = omega (arith, a.literals, a.directives, a.bytes) },
+    a,
     rw w.buffer (begun_still w.begun e k),
   )
 

@@ -58,9 +58,6 @@ module _ {s : List ℕ} {i from : ℕ} (w : Standing s i from) (h : i < length s
   one_more : steps_left s i ≡ suc (steps_left s (i + 3))
   one_more = omega (arith, w.ends)
 
-  pub three_there : i + 3 ≤ length s
-  three_there = omega (arith, w.ends)
-
   some : 0 < steps_left s i
   some = omega (arith, one_more)
 
@@ -147,15 +144,15 @@ module _ {s : List ℕ} {i from : ℕ} (w : Standing s i from) (h : i < length s
           let u = text_uses s i e b in
           record { part = text (take n (drop from s)); step = rw (← u) (text_step e b (text_fits b)); ran = rw c at v }
 
-      pub ran_piece : {a : ℕ} → (get_or s i 0 ≡ 0 → ⊥) → Agreed s a (sections s).directives → Ran limit room (events_of r zone (entry_of (drop (4 + a + n * 8) s))) l k l' k' → PartRan limit room r zone s i from l k l' k'
+      pub ran_piece : {a d : ℕ} → (get_or s i 0 ≡ 0 → ⊥) → Agreed s a d → Ran limit room (events_of r zone (entry_of (drop (4 + a + n * 8) s))) l k l' k' → PartRan limit room r zone s i from l k l' k'
       ran_piece {a} f q v =
           let u = piece_uses s i f in
           let same : from + 0 ≡ from = omega arith in
-          record { part = piece (entry_of (drop (4 + a + n * 8) s)); step = rw (← u, same) (piece_step e (must_name f) q (piece_fits f)); ran = v }
+          record { part = piece (entry_of (drop (4 + a + n * 8) s)); step = rw (← u, same) (piece_step e (must_name f) q (omega (arith, piece_fits f, q.directives))); ran = v }
 
--- the answer of a check over counts that were read again
-pub taken_by : {s : List ℕ} {i from l d : ℕ} {ok : Bool} → Standing s i from → ok ≡ steps_taken (steps_left s i) (drop i s) d (2 + l - from) → (l ≡ (sections s).literals) × (d ≡ (sections s).directives) → ok ≡ taken_from s i from
-taken_by w e q = let a = q.0 in let b = q.1 in e ∙ rw (a, b) refl
+-- the answer of a check over the counts
+pub taken_by : {s : List ℕ} (i from : ℕ) {l d : ℕ} {ok : Bool} → Agreed s l d → ok ≡ steps_taken (steps_left s i) (drop i s) d (2 + l - from) → ok ≡ taken_from s i from
+taken_by i from w e = let a = w.literals in let b = w.directives in e ∙ rw (a, b) refl
 
 -- ## The steps that are left, one by one
 

@@ -13,7 +13,8 @@ use letters::{NOT_A_LETTER, letter};
 use offset_directive::plain_offset;
 use rules::{Offset, Record};
 
-// The code of a directive with no flag, no width and the default padding. For any other 0, which is no letter.
+// The code of a directive with no flag, no width and the default padding. For any other 0, which is no letter: an `Option` would be a second way to
+// `marked_entry` at each call.
 pub fn plain_code(stored: &[u8], entry: usize) -> u8
     requires { entry + 8 ≤ length stored.now }
     ensures { 0 < result → Eight (drop entry stored.now) result }
@@ -42,8 +43,7 @@ pub fn marked_entry(
         return plain_offset(out, at, room, limit, form, record);
     }
     if eight / 256 == 256 {
-        let short = short_of((eight % 256) as u8, record);
-        if short < 100 {
+        if let Some(short) = short_of((eight % 256) as u8, record) {
             return put_short(out, at, room, short);
         }
     }

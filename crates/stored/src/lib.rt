@@ -19,10 +19,10 @@ use codes::entry::two_at;
 use entry::{entry_directive, marked_entry, plain_code};
 use letters::{NOT_A_LETTER, letter};
 use literals::{blocks_of, copy_text};
-use rules::{Answer, LONGEST_BUFFER, LONGEST_FORMAT, LONGEST_ZONE, Record, Refusal};
+use rules::{LONGEST_BUFFER, LONGEST_FORMAT, LONGEST_ZONE, Record, Refusal};
 use sections::{Counts, counts_of, entries_taken, steps_taken};
 use strftime::{SCRATCH, part_of};
-use text::{copy_front, is_refused, judged, number_at, put_part};
+use text::{copy_front, is_refused, number_at, put_part, refused_at};
 
 // How many literal bytes the step at `i` uses.
 fn used_at(stored: &[u8], i: usize) -> usize
@@ -37,10 +37,11 @@ fn used_at(stored: &[u8], i: usize) -> usize
 }
 
 // The part of the step at `i`, which is taken. The lines that write a directive are those of `entry_directive`: called from here too, it would no
-// longer be part of the loop over the scratch, and the record would be copied once more.
+// longer be part of the loop over the scratch, and the record would be copied once more. `Agreed` stands in contracts: it ties `Counts` to bytes that
+// `Counts` does not hold.
 fn run_part(
     stored: &[u8],
-    literals: usize,
+    counts: Counts,
     i: usize,
     from: usize,
     zone: &[u8],
@@ -50,14 +51,14 @@ fn run_part(
     room: usize,
     limit: usize,
 ) -> usize
-    requires { Room out.old room × Agreed stored.now literals (sections stored.now).directives × Standing stored.now i from × (taken_from stored.now i from ≡ true) × (i < length stored.now) }
+    requires { Room out.old room × Agreed stored.now counts.literals counts.directives × Standing stored.now i from × (taken_from stored.now i from ≡ true) × (i < length stored.now) }
     ensures { PartRan limit room «record» zone.now stored.now i from out.old at out.new result }
 {
     let n = two_at(stored, i + 1);
     if stored[i] == 0 {
         return put_part(out, at, room, stored, from, from + n);
     }
-    let entry = 4 + literals + n * 8;
+    let entry = counts.entry_at(n);
     let code = plain_code(stored, entry);
     let place = letter(out, at, room, limit, code, record, zone);
     if place == NOT_A_LETTER {
@@ -69,7 +70,7 @@ fn run_part(
 // All steps from the one at `step` on, which are taken.
 fn run_steps(
     stored: &[u8],
-    literals: usize,
+    counts: Counts,
     step: usize,
     literal: usize,
     place: usize,
@@ -79,18 +80,15 @@ fn run_steps(
     room: usize,
     limit: usize,
 ) -> usize
-    requires { Room out.old room × Agreed stored.now literals (sections stored.now).directives × Standing stored.now step literal × (taken_from stored.now step literal ≡ true) }
+    requires { Room out.old room × Agreed stored.now counts.literals counts.directives × Standing stored.now step literal × (taken_from stored.now step literal ≡ true) }
     ensures { Ran limit room (part_events (events_of «record» zone.now) (parts_from stored.now step literal)) out.old place out.new result }
 {
     let mut at = place;
     let mut from = literal;
-    let mut i = step;
-    while i < stored.len() {
-        at = run_part(
-            stored, literals, i, from, zone, record, out, at, room, limit,
-        );
+    for n in 0..(stored.len() - step) / 3 {
+        let i = step + n * 3;
+        at = run_part(stored, counts, i, from, zone, record, out, at, room, limit);
         from += used_at(stored, i);
-        i += 3;
     }
     at
 }
@@ -99,6 +97,7 @@ fn run_steps(
 // the rest is counted, with no slice to write to. If it isn't refused, the scratch's front is copied to the buffer, and the rest is written behind it.
 fn rest(
     stored: &[u8],
+    counts: Counts,
     i: usize,
     from: usize,
     place: usize,
@@ -108,19 +107,18 @@ fn rest(
     out: &mut [u8],
     buffer: &mut [u8],
 ) -> usize
-    requires { Room out.old (length buffer.old) × Agreed stored.now (sections stored.now).literals (sections stored.now).directives × Begun limit (length buffer.old) «record» zone.now stored.now i from out.old place }
+    requires { Room out.old (length buffer.old) × Agreed stored.now counts.literals counts.directives × Begun limit (length buffer.old) «record» zone.now stored.now i from out.old place }
     ensures { Stamped limit (all_events «record» zone.now stored.now) out.old buffer.old out.new buffer.new result }
 {
-    let literals = two_at(stored, 0);
-    let directives = two_at(stored, 2 + literals);
     let count = (stored.len() - i) / 3;
-    if !steps_taken(stored, i, count, directives, 2 + literals - from) {
-        return judged(0, 11);
+    let left = 2 + counts.literals - from;
+    if !steps_taken(stored, i, count, counts.directives, left) {
+        return refused_at(0, Refusal::BadStored);
     }
     let room = buffer.len();
     let end = run_steps(
         stored,
-        literals,
+        counts,
         i,
         from,
         place,
@@ -135,7 +133,7 @@ fn rest(
     }
     copy_front(buffer, out, place);
     run_steps(
-        stored, literals, i, from, place, zone, record, buffer, room, limit,
+        stored, counts, i, from, place, zone, record, buffer, room, limit,
     )
 }
 
@@ -144,45 +142,47 @@ fn rest(
 // every call.
 fn stamp(
     stored: &[u8],
-    literals: usize,
-    directives: usize,
+    counts: Counts,
     limit: usize,
     zone: &[u8],
     record: Record,
     out: &mut [u8],
     buffer: &mut [u8],
 ) -> usize
-    requires { Room out.old (length buffer.old) × Sound stored.now literals directives }
+    requires { Room out.old (length buffer.old) × Sound stored.now counts.literals counts.directives }
     ensures { Stamped limit (all_events «record» zone.now stored.now) out.old buffer.old out.new buffer.new result }
 {
     let room = buffer.len();
-    let blocks = blocks_of(2 + literals, stored.len(), out.len());
+    let blocks = blocks_of(2 + counts.literals, stored.len(), out.len());
     let mut at = 0;
     let mut from = 2;
-    let mut i = 6 + literals + directives * 8;
-    while i < stored.len() {
+    let start = counts.steps_at();
+    for step in 0..(stored.len() - start) / 3 {
+        let i = start + step * 3;
         let n = two_at(stored, i + 1);
         if stored[i] == 0 {
-            if 2 + literals - from < n {
-                return judged(0, 11);
+            if 2 + counts.literals - from < n {
+                return refused_at(0, Refusal::BadStored);
             }
             if !copy_text(out, at, stored, from, n, blocks) {
-                return rest(stored, i, from, at, limit, zone, record, out, buffer);
+                return rest(
+                    stored, counts, i, from, at, limit, zone, record, out, buffer,
+                );
             }
             at += n;
             from += n;
-            i += 3;
         } else {
-            if stored[i] != 1 || directives <= n {
-                return judged(0, 11);
+            if stored[i] != 1 || counts.directives <= n {
+                return refused_at(0, Refusal::BadStored);
             }
-            let entry = 4 + literals + n * 8;
+            let entry = counts.entry_at(n);
             let place = entry_directive(stored, entry, zone, record, out, at, room, limit);
             if out.len() < place {
-                return rest(stored, i, from, at, limit, zone, record, out, buffer);
+                return rest(
+                    stored, counts, i, from, at, limit, zone, record, out, buffer,
+                );
             }
             at = place;
-            i += 3;
         }
     }
     copy_front(buffer, out, at);
@@ -197,34 +197,32 @@ pub fn format_stored(
     zone: &[u8],
     record: Record,
     buffer: &mut [u8],
-) -> Answer
+) -> Result<usize, Refusal>
     ensures answer { numbered result ≡ reported (formatted_stored stored.now format_length zone.now «record» (length buffer.old)) }
     ensures buffer { buffer.new ≡ buffer_after (formatted_stored stored.now format_length zone.now «record» (length buffer.old)) buffer.old }
 {
     let room = buffer.len();
     if format_length > LONGEST_FORMAT {
-        return Answer::Refused(Refusal::InputTooLong);
+        return Err(Refusal::InputTooLong);
     }
     if zone.len() > LONGEST_ZONE {
-        return Answer::Refused(Refusal::InputTooLong);
+        return Err(Refusal::InputTooLong);
     }
     if room > LONGEST_BUFFER {
-        return Answer::Refused(Refusal::InputTooLong);
+        return Err(Refusal::InputTooLong);
     }
-    let counts = counts_of(stored);
-    let Counts::Agree(literals, directives) = counts else {
-        return Answer::Refused(Refusal::BadStored);
+    let Some(counts) = counts_of(stored) else {
+        return Err(Refusal::BadStored);
     };
-    if !entries_taken(stored, 4 + literals, directives) {
-        return Answer::Refused(Refusal::BadStored);
+    if !entries_taken(stored, counts.entry_at(0), counts.directives) {
+        return Err(Refusal::BadStored);
     }
     let limit = format_length * 524288;
     let mut small = [0u8; SCRATCH];
     let part = part_of(room);
     let end = stamp(
         stored,
-        literals,
-        directives,
+        counts,
         limit,
         zone,
         record,
@@ -232,7 +230,8 @@ pub fn format_stored(
         buffer,
     );
     if is_refused(end) {
-        return Answer::Refused(rules::refusal_of(number_at(end)));
+        // Not by `refusal_at`, which asks for a refusal that an event gives: 11 is none.
+        return Err(rules::refusal_of(number_at(end)));
     }
-    Answer::Done(end)
+    Ok(end)
 }

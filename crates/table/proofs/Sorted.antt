@@ -2,11 +2,17 @@
 use mathlib.Core.Path.{◌≡◌, refl, sym}
 use mathlib.Core.Bool.{Bool, true, false, cond}
 use mathlib.Core.List.{List, [], ◌∷◌}
-use Prim.Native.Nat.{ℕ, zero, suc, ◌+◌, ◌≤◌, ◌<◌}
+use Prim.Native.Nat.{ℕ, zero, suc, ◌≤◌, ◌<◌}
 use native.Mathlib.Omega.{arith}
 use lib.Dec.{ltb, eqb}
 use lib.ListN.{length, get_or}
 use borrow.Author.Tests.{eq-eqb, ne_eqb, ltb-true}
+use native.Mathlib.Decide.{dec_lt}
+use Rattle.std.specs.Prelude.{Result, Ok, Err, is_ok}
+use Rattle.std.specs.Result.{MatchResult}
+use Rattle.std.specs.Ordering.{nat_cmp}
+use Rattle.std.specs.List.Sorted.{IsBinarySearchResult}
+use Rattle.std.proofs.lemmas.List.Sorted.{searched}
 use Rattle.rules.specs.Reading.{member, rising}
 use Rattle.rules.proofs.RecordLaws.{both}
 
@@ -30,8 +36,13 @@ smaller_first (x ∷ xs) h zero (suc j) l m k = omega arith
 smaller_first (x ∷ xs) h (suc i) zero l m k = absurd (omega (arith, rising_first x xs h i (omega arith)))
 smaller_first (x ∷ xs) h (suc i) (suc j) l m k = omega (arith, smaller_first xs (rising_tail x xs h) i j (omega arith) (omega arith) k)
 
+-- later ones are no smaller
+ascending : (xs : List ℕ) → rising xs ≡ true → (i j : ℕ) → i ≤ j → j < length xs → get_or xs i 0 ≤ get_or xs j 0
+ascending xs h i j l m =
+    elim (dec_lt (get_or xs j 0) (get_or xs i 0)) [ yes k ↦ absurd (omega (arith, smaller_first xs h j i m (omega arith) k)) | no k ↦ omega arith ]
+
 module _ (b : ℕ) where
-  pub member_at : (xs : List ℕ) (k : ℕ) → k < length xs → get_or xs k 0 ≡ b → true ≡ member b xs
+  member_at : (xs : List ℕ) (k : ℕ) → k < length xs → get_or xs k 0 ≡ b → true ≡ member b xs
   unfolding member
   member_at [] k l e = absurd (omega arith)
   member_at (x ∷ xs) zero l e = rw (eq-eqb b x (sym e))
@@ -46,22 +57,11 @@ module _ (b : ℕ) where
   member_none [] n = refl
   member_none (x ∷ xs) n = rw (ne_eqb b x (λ e. n 0 (omega arith) (sym e))) (member_none xs (λ k l e. n (suc k) (omega arith) e))
 
--- wherever b stands in the table, it stands from `low` on and before `high`
-pub record Between (table : List ℕ) (b low high : ℕ) : Type 0 where
-  pub fit : high ≤ length table
-  pub only : (k : ℕ) → k < length table → get_or table k 0 ≡ b → (low ≤ k) × (k < high)
-
-module _ (table : List ℕ) (b : ℕ) where
-  pub all_between : Between table b 0 (length table)
-  all_between = record { fit = omega arith; only = λ k l e. (omega arith, l) }
-
-  module _ (low high : ℕ) (is : Between table b low high) where
-    module _ (h : rising table ≡ true) (middle : ℕ) (l : middle < length table) where
-      pub upper_half : get_or table middle 0 < b → Between table b (middle + 1) high
-      upper_half m = record { fit = is.fit; only = λ k n e. (omega (arith, smaller_first table h middle k l n (omega arith)), (is.only k n e).1) }
-
-      pub lower_half : b < get_or table middle 0 → Between table b low middle
-      lower_half m = record { fit = omega arith; only = λ k n e. ((is.only k n e).0, smaller_first table h k middle n l (omega arith)) }
-
-    pub nowhere : high ≤ low → false ≡ member b table
-    nowhere l = member_none b table (λ k n e. omega (arith, is.only k n e))
+  pub found : (xs : List ℕ) (r : Result ℕ ℕ) → rising xs ≡ true → IsBinarySearchResult (λ y. nat_cmp y b) xs r → is_ok r ≡ member b xs
+  found xs r h p = go r (searched xs b r p (ascending xs h))
+    where
+      go : (r : Result ℕ ℕ)
+          → MatchResult r (λ i. (i < length xs) × (get_or xs i 0 ≡ b)) (λ i. (i ≤ length xs) × ((k : ℕ) → k < i → get_or xs k 0 < b) × ((k : ℕ) → i ≤ k → k < length xs → b < get_or xs k 0))
+          → is_ok r ≡ member b xs
+      go (Ok i) m = member_at xs i m.0 m.1
+      go (Err i) m = member_none xs (λ k l e. elim (dec_lt k i) [ yes u ↦ omega (arith, m.1 k u) | no u ↦ omega (arith, m.2 k (omega arith) l) ])

@@ -4,7 +4,7 @@
 ghost use Rattle.std.specs.Prelude.{◌≡◌, true};
 ghost use Rattle.rules.specs.Reading.{letters, member, modified, possible_specs, rising, spec_of};
 
-use rules::{Combination, Entry, Fixed, Fraction, Modifier, Name, Number, Offset, Spec};
+use rules::{Combination, Fixed, Fraction, Modifier, Name, Number, Offset, Spec};
 
 // The letters of the directives, in order.
 const POSSIBLE_SPECS: [u8; 44] = *b"%ABCDFGHILMNPRSTUVWXYZabcdeghjklmnprstuvwxyz";
@@ -21,26 +21,13 @@ fn possible_specs() -> [u8; 44]
     POSSIBLE_SPECS
 }
 
-// Whether a byte stands in a sorted table, by halves.
+// Whether a byte stands in a sorted table.
+#[tactic(auto, using(crate::proofs::Sorted::found))]
 fn is_among(table: &[u8], b: u8) -> bool
     requires { rising table.now ≡ true }
     ensures { result ≡ member b table.now }
 {
-    let mut low = 0;
-    let mut high = table.len();
-    while low < high {
-        let middle = low + (high - low) / 2;
-        let letter = table[middle];
-        if letter == b {
-            return true;
-        }
-        if letter < b {
-            low = middle + 1;
-        } else {
-            high = middle;
-        }
-    }
-    false
+    table.binary_search(&b).is_ok()
 }
 
 // Whether a letter is that of a directive.
@@ -53,55 +40,55 @@ pub fn is_possible(b: u8) -> bool
 
 // The directive of a letter.
 #[tactic(auto, unfolding(rules::specs::Reading::look_up, rules::specs::Reading::possible_specs))]
-pub fn spec_of(b: u8) -> Entry
+pub fn spec_of(b: u8) -> Option<Spec>
     ensures { result ≡ spec_of b }
 {
     match b {
-        b'%' => Entry::Is(Spec::Fixed(Fixed::Percent)),
-        b'A' => Entry::Is(Spec::Name(Name::WeekDayName)),
-        b'B' => Entry::Is(Spec::Name(Name::MonthName)),
-        b'C' => Entry::Is(Spec::Number(Number::YearDiv100)),
-        b'D' => Entry::Is(Spec::Combination(Combination::CombinationDate)),
-        b'F' => Entry::Is(Spec::Combination(Combination::CombinationIso8601)),
-        b'G' => Entry::Is(Spec::Number(Number::YearIso8601)),
-        b'H' => Entry::Is(Spec::Number(Number::Hour24hZero)),
-        b'I' => Entry::Is(Spec::Number(Number::Hour12hZero)),
-        b'L' => Entry::Is(Spec::Fraction(Fraction::MilliSecond)),
-        b'M' => Entry::Is(Spec::Number(Number::Minute)),
-        b'N' => Entry::Is(Spec::Fraction(Fraction::FractionalSecond)),
-        b'P' => Entry::Is(Spec::Name(Name::MeridianLower)),
-        b'R' => Entry::Is(Spec::Combination(Combination::CombinationHourMinute24h)),
-        b'S' => Entry::Is(Spec::Number(Number::Second)),
-        b'T' => Entry::Is(Spec::Combination(Combination::CombinationTime24h)),
-        b'U' => Entry::Is(Spec::Number(Number::WeekNumberFromSunday)),
-        b'V' => Entry::Is(Spec::Number(Number::WeekNumberIso8601)),
-        b'W' => Entry::Is(Spec::Number(Number::WeekNumberFromMonday)),
-        b'X' => Entry::Is(Spec::Combination(Combination::CombinationTime24h)),
-        b'Y' => Entry::Is(Spec::Number(Number::Year4Digits)),
-        b'Z' => Entry::Is(Spec::TimeZoneName),
-        b'a' => Entry::Is(Spec::Name(Name::WeekDayNameAbbr)),
-        b'b' => Entry::Is(Spec::Name(Name::MonthNameAbbr)),
-        b'c' => Entry::Is(Spec::Combination(Combination::CombinationDateTime)),
-        b'd' => Entry::Is(Spec::Number(Number::MonthDayZero)),
-        b'e' => Entry::Is(Spec::Number(Number::MonthDaySpace)),
-        b'g' => Entry::Is(Spec::Number(Number::YearIso8601Rem100)),
-        b'h' => Entry::Is(Spec::Name(Name::MonthNameAbbr)),
-        b'j' => Entry::Is(Spec::Number(Number::YearDay)),
-        b'k' => Entry::Is(Spec::Number(Number::Hour24hSpace)),
-        b'l' => Entry::Is(Spec::Number(Number::Hour12hSpace)),
-        b'm' => Entry::Is(Spec::Number(Number::Month)),
-        b'n' => Entry::Is(Spec::Fixed(Fixed::Newline)),
-        b'p' => Entry::Is(Spec::Name(Name::MeridianUpper)),
-        b'r' => Entry::Is(Spec::Combination(Combination::CombinationTime12h)),
-        b's' => Entry::Is(Spec::Number(Number::SecondsSinceEpoch)),
-        b't' => Entry::Is(Spec::Fixed(Fixed::Tabulation)),
-        b'u' => Entry::Is(Spec::Number(Number::WeekDayFrom1)),
-        b'v' => Entry::Is(Spec::Combination(Combination::CombinationVmsDate)),
-        b'w' => Entry::Is(Spec::Number(Number::WeekDayFrom0)),
-        b'x' => Entry::Is(Spec::Combination(Combination::CombinationDate)),
-        b'y' => Entry::Is(Spec::Number(Number::YearRem100)),
-        b'z' => Entry::Is(Spec::Offset(Offset::TimeZoneOffsetHourMinute)),
-        _ => Entry::Missing,
+        b'%' => Some(Spec::Fixed(Fixed::Percent)),
+        b'A' => Some(Spec::Name(Name::WeekDayName)),
+        b'B' => Some(Spec::Name(Name::MonthName)),
+        b'C' => Some(Spec::Number(Number::YearDiv100)),
+        b'D' => Some(Spec::Combination(Combination::CombinationDate)),
+        b'F' => Some(Spec::Combination(Combination::CombinationIso8601)),
+        b'G' => Some(Spec::Number(Number::YearIso8601)),
+        b'H' => Some(Spec::Number(Number::Hour24hZero)),
+        b'I' => Some(Spec::Number(Number::Hour12hZero)),
+        b'L' => Some(Spec::Fraction(Fraction::MilliSecond)),
+        b'M' => Some(Spec::Number(Number::Minute)),
+        b'N' => Some(Spec::Fraction(Fraction::FractionalSecond)),
+        b'P' => Some(Spec::Name(Name::MeridianLower)),
+        b'R' => Some(Spec::Combination(Combination::CombinationHourMinute24h)),
+        b'S' => Some(Spec::Number(Number::Second)),
+        b'T' => Some(Spec::Combination(Combination::CombinationTime24h)),
+        b'U' => Some(Spec::Number(Number::WeekNumberFromSunday)),
+        b'V' => Some(Spec::Number(Number::WeekNumberIso8601)),
+        b'W' => Some(Spec::Number(Number::WeekNumberFromMonday)),
+        b'X' => Some(Spec::Combination(Combination::CombinationTime24h)),
+        b'Y' => Some(Spec::Number(Number::Year4Digits)),
+        b'Z' => Some(Spec::TimeZoneName),
+        b'a' => Some(Spec::Name(Name::WeekDayNameAbbr)),
+        b'b' => Some(Spec::Name(Name::MonthNameAbbr)),
+        b'c' => Some(Spec::Combination(Combination::CombinationDateTime)),
+        b'd' => Some(Spec::Number(Number::MonthDayZero)),
+        b'e' => Some(Spec::Number(Number::MonthDaySpace)),
+        b'g' => Some(Spec::Number(Number::YearIso8601Rem100)),
+        b'h' => Some(Spec::Name(Name::MonthNameAbbr)),
+        b'j' => Some(Spec::Number(Number::YearDay)),
+        b'k' => Some(Spec::Number(Number::Hour24hSpace)),
+        b'l' => Some(Spec::Number(Number::Hour12hSpace)),
+        b'm' => Some(Spec::Number(Number::Month)),
+        b'n' => Some(Spec::Fixed(Fixed::Newline)),
+        b'p' => Some(Spec::Name(Name::MeridianUpper)),
+        b'r' => Some(Spec::Combination(Combination::CombinationTime12h)),
+        b's' => Some(Spec::Number(Number::SecondsSinceEpoch)),
+        b't' => Some(Spec::Fixed(Fixed::Tabulation)),
+        b'u' => Some(Spec::Number(Number::WeekDayFrom1)),
+        b'v' => Some(Spec::Combination(Combination::CombinationVmsDate)),
+        b'w' => Some(Spec::Number(Number::WeekDayFrom0)),
+        b'x' => Some(Spec::Combination(Combination::CombinationDate)),
+        b'y' => Some(Spec::Number(Number::YearRem100)),
+        b'z' => Some(Spec::Offset(Offset::TimeZoneOffsetHourMinute)),
+        _ => None,
     }
 }
 

@@ -5,8 +5,10 @@ use Prim.Native.Nat.{ℕ, zero, suc, ◌+◌, ◌≤◌, ◌<◌}
 use native.Mathlib.Nat.{add-zero, suc-add, add-suc, zero-add}
 use native.Mathlib.Numerals.{add-one}
 use native.Mathlib.Omega.{arith}
-use lib.ListN.{length, get_or, set, take, drop, replicate, length-set, length-replicate, get_or-replicate}
+use lib.ListN.{length, get_or, set, take, drop, length-set}
 use lib.Seq.{sets, sets-eq, set_out, take-set-le, drop-set-lt, take-suc, take_all, length-take-le}
+use borrow.Rule.Slice.PartMut.{put_mid}
+use Rattle.std.proofs.lemmas.Slice.{put_mid-paste}
 use Rattle.text.specs.Overlay.{overlay}
 
 pub overlay_nil : (at : ℕ) (l : List ℕ) → overlay at [] l ≡ l
@@ -45,6 +47,13 @@ overlay_fits at t l h = overlay_sets at t l ∙ sets-eq t l at h
 pub overlay_between : (at k : ℕ) (t l : List ℕ) {l' : List ℕ} → length t ≡ k → at + k ≤ length l → l' ≡ take at l ++ (t ++ drop (at + k) l) → l' ≡ overlay at t l
 overlay_between at k t l e h q =
     q ∙ sym (overlay_fits at t l (omega arith) ∙ append_assoc (take at l) t (drop (at + length t) l) ∙ ap (λ (m : ℕ). take at l ++ (t ++ drop (at + m) l)) e)
+
+-- a part of the list, written over by a text as long
+pub overlay_part : (at k : ℕ) (u t l : List ℕ) → u ≡ t → length t ≡ k → at + k ≤ length l → put_mid at k l u ≡ overlay at t l
+overlay_part at k u t l e q h =
+    put_mid-paste at k l u t (length t) e q refl
+    ∙ ap (λ (x : List ℕ). take at l ++ x ++ drop (at + length t) l) (take_all (length t) t (omega arith))
+    ∙ sym (overlay_fits at t l (omega arith))
 
 pub overlay_front : (t l : List ℕ) → length t ≤ length l → overlay 0 t l ≡ t ++ drop (length t) l
 overlay_front t l h = overlay_fits 0 t l (omega arith) ∙ ap (λ (k : ℕ). t ++ drop k l) (zero-add (length t))
@@ -100,19 +109,5 @@ module _ {at : ℕ} {t l : List ℕ} where
   pub laid_more : {j : ℕ} {l' : List ℕ} → Laid at t l j l' → j < length t → Laid at t l (j + 1) (set l' (at + j) (get_or t j 0))
   laid_more w h = record { bytes = turned w h; kept = simp length-set w.kept }
 
-  -- a byte that has no place
-  pub laid_past : {j : ℕ} {l' : List ℕ} → Laid at t l j l' → j < length t → length l ≤ at + j → Laid at t l (j + 1) l'
-  laid_past {j} {l'} w h g = record { bytes = sym (set_out l' (at + j) (get_or t j 0) (omega (arith, w.kept))) ∙ turned w h; kept = w.kept }
-
   pub laid_all : {j : ℕ} {l' : List ℕ} → Laid at t l j l' → length t ≤ j → l' ≡ overlay at t l
   laid_all {j} w h = w.bytes ∙ ap (λ (s : List ℕ). overlay at s l) (take_all j t h)
-
--- the same of one byte, n times
-pub laid_again : (n b : ℕ) {at : ℕ} {l : List ℕ} {j : ℕ} {l' : List ℕ} → Laid at (replicate n b) l j l' → j < n → Laid at (replicate n b) l (j + 1) (set l' (at + j) b)
-laid_again n b w h = rw (get_or-replicate n _ b 0 h) at (laid_more w (simp length-replicate h))
-
--- the front of a run of one byte
-pub take_replicate : (k n b : ℕ) → k ≤ n → take k (replicate n b) ≡ replicate k b
-take_replicate zero n b h = refl
-take_replicate (suc k) zero b h = absurd (omega arith)
-take_replicate (suc k) (suc n) b h = ap (λ (t : List ℕ). b ∷ t) (take_replicate k n b (omega arith))

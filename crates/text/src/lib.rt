@@ -4,7 +4,7 @@
 
 ghost use Rattle.std.specs.Prelude.{◌≡◌, List, [], ◌∷◌, ◌++◌, ℕ, ◌+◌, ◌-◌, ◌/◌, ◌≤◌, ◌<◌, ltb, leb, length, take, drop, replicate};
 ghost use Rattle.rules.specs.Record.{longest_buffer};
-ghost use Rattle.rules.specs.Refusal.{number_of, ByEvent};
+ghost use Rattle.rules.specs.Refusal.{number_of, number_in_check, ByEvent};
 ghost use Rattle.rules.specs.Event as event;
 ghost use Rattle.rules.specs.Decimal.{places};
 ghost use Rattle.text.specs.Overlay.{overlay};
@@ -14,6 +14,7 @@ ghost use Rattle.text.specs.Room.{Room};
 use rules::{LONGEST_BUFFER, Refusal};
 
 // Whether `count` more bytes end within `len`: no sum is made that could wrap.
+#[tactic(auto, using(crate::proofs::PlaceLaws::leb_sub))]
 pub fn fits(at: usize, count: usize, len: usize) -> bool
     ensures { result ≡ leb (at + count) len }
 {
@@ -27,6 +28,7 @@ pub fn fits(at: usize, count: usize, len: usize) -> bool
 const REFUSED_UNIT: usize = 131072;
 
 // The place of a refusal: its number, and how far the text came.
+#[tactic(auto, using(crate::proofs::PlaceLaws::count_refused))]
 fn refused(number: usize, reach: usize) -> usize
     requires { (1 ≤ number) × (number ≤ 255) × (reach ≤ longest_buffer) }
     ensures count { count_at result ≡ event.no number reach }
@@ -50,6 +52,7 @@ pub fn refusal_at(place: usize) -> Refusal
 }
 
 // The refusal's number, or 0; ..
+#[tactic(auto, using(crate::proofs::PlaceLaws::count_at_lem, crate::proofs::PlaceLaws::count_no), unfolding(rules::specs::Event::number_in))]
 pub fn number_at(place: usize) -> usize
     ensures { result ≡ event.number_in (count_at place) }
 {
@@ -60,6 +63,7 @@ pub fn number_at(place: usize) -> usize
 }
 
 // .. and how far the text came.
+#[tactic(auto, using(crate::proofs::PlaceLaws::count_at_lem, crate::proofs::PlaceLaws::count_no), unfolding(rules::specs::Event::reach_of))]
 pub fn reach_at(place: usize) -> usize
     ensures { result ≡ event.reach_of (count_at place) }
 {
@@ -97,79 +101,22 @@ pub fn judged(at: usize, verdict: usize) -> usize
     refused(verdict, at)
 }
 
-fn copy(out: &mut [u8], at: usize, src: &[u8])
-    requires { at + length src.now ≤ length out.old }
-    ensures { out.new ≡ overlay at src.now out.old }
+// The place after a check that refused.
+#[tactic(auto, using(crate::proofs::JudgedLaws::refusal_small))]
+pub fn refused_at(at: usize, refusal: Refusal) -> usize
+    ensures { (limit room : ℕ) (l : List ℕ) → Ran limit room (event.judged (number_of refusal) ∷ []) l at l result }
 {
-    let mut i = 0;
-    while i < src.len() {
-        out[at + i] = src[i];
-        i += 1;
-    }
+    judged(at, u32::from(refusal) as usize)
 }
 
-fn fill(out: &mut [u8], at: usize, byte: u8, count: usize)
-    requires { at + count ≤ length out.old }
-    ensures { out.new ≡ overlay at (replicate count byte) out.old }
+// The place after a check.
+pub fn after_check(at: usize, verdict: Result<(), Refusal>) -> usize
+    ensures { (limit room : ℕ) (l : List ℕ) → Ran limit room (event.judged (number_in_check verdict) ∷ []) l at l result }
 {
-    let mut j = 0;
-    while j < count {
-        out[at + j] = byte;
-        j += 1;
+    if let Err(refusal) = verdict {
+        return refused_at(at, refusal);
     }
-}
-
-// The bytes that have a place, one by one: of few bytes, whose number is known where it is called, a compiler makes as many stores.
-fn copy_clipped(out: &mut [u8], at: usize, src: &[u8])
-    ensures { out.new ≡ overlay at src.now out.old }
-{
-    if at < out.len() {
-        let left = out.len() - at;
-        let mut i = 0;
-        while i < src.len() {
-            if i < left {
-                out[at + i] = src[i];
-            }
-            i += 1;
-        }
-    }
-}
-
-// ## Writes that don't fit
-// What fits is written by a call of itself, so that a compiler keeps these out of line and the way of a write that fits stays short.
-
-fn put_short(out: &mut [u8], at: usize, room: usize, src: &[u8]) -> usize
-    requires { Room out.old room }
-    ensures { (limit : ℕ) → Ran limit room (event.write (event.put src.now) ∷ []) out.old at out.new result }
-{
-    let count = src.len();
-    if fits(at, count, out.len()) {
-        copy(out, at, src);
-        return at + count;
-    }
-    if at < out.len() {
-        let left = out.len() - at;
-        let end = put_short(out, at, room, &src[..left]);
-        return missed(at, count, room);
-    }
-    missed(at, count, room)
-}
-
-// A run goes this way where it fits too: hardly a plain directive has one.
-pub fn run_short(out: &mut [u8], at: usize, room: usize, byte: u8, count: usize) -> usize
-    requires { Room out.old room }
-    ensures { (limit : ℕ) → Ran limit room (event.write (event.put (replicate count byte)) ∷ []) out.old at out.new result }
-{
-    if fits(at, count, out.len()) {
-        fill(out, at, byte, count);
-        return at + count;
-    }
-    if at < out.len() {
-        let left = out.len() - at;
-        let end = run_short(out, at, room, byte, left);
-        return missed(at, count, room);
-    }
-    missed(at, count, room)
+    at
 }
 
 // The number whose last `left` places are the first of the last `count` places of v.
@@ -178,57 +125,143 @@ fn front_places(v: u64, count: usize, left: usize) -> u64
     ensures { places left result ≡ take left (places count v) }
 {
     let mut n = v;
-    let mut k = count;
-    while left < k {
+    for _turn in left..count {
         n = n / 10;
-        k -= 1;
     }
     n
 }
 
-pub fn places_short(out: &mut [u8], at: usize, room: usize, count: usize, v: u64) -> usize
+// ## Sources
+
+// Bytes that can be laid down whole, or the front of them.
+pub trait Source: Copy {
+    ghost bytes: { Self → List ℕ };
+
+    fn count(self) -> usize
+        ensures { result ≡ length (bytes self) };
+
+    fn front(self, count: usize) -> Self
+        requires { count ≤ length (bytes self) }
+        ensures { bytes result ≡ take count (bytes self) };
+
+    fn lay(self, out: &mut [u8], at: usize)
+        requires { at + length (bytes self) ≤ length out.old }
+        ensures { out.new ≡ overlay at (bytes self) out.old };
+}
+
+// A slice.
+#[derive(Clone, Copy)]
+pub struct Bytes<'a>(pub &'a [u8]);
+
+impl<'a> Source for Bytes<'a> {
+    ghost bytes = { λ s. s.0.now };
+
+    fn count(self) -> usize {
+        self.0.len()
+    }
+
+    fn front(self, count: usize) -> Bytes<'a> {
+        Bytes(&self.0[..count])
+    }
+
+    fn lay(self, out: &mut [u8], at: usize) {
+        out[at..at + self.0.len()].copy_from_slice(self.0)
+    }
+}
+
+// One byte, so many times.
+#[derive(Clone, Copy)]
+pub struct Run {
+    pub byte: u8,
+    pub count: usize,
+}
+
+impl Source for Run {
+    ghost bytes = { λ s. replicate s.count s.byte };
+
+    fn count(self) -> usize {
+        self.count
+    }
+
+    fn front(self, count: usize) -> Run {
+        Run {
+            byte: self.byte,
+            count,
+        }
+    }
+
+    fn lay(self, out: &mut [u8], at: usize) {
+        out[at..at + self.count].fill(self.byte)
+    }
+}
+
+// The last `count` decimal digits of v, with zeros in front where v has fewer.
+#[derive(Clone, Copy)]
+pub struct Places {
+    pub count: usize,
+    pub v: u64,
+}
+
+impl Source for Places {
+    ghost bytes = { λ s. places s.count s.v };
+
+    #[tactic(auto, using(rules::proofs::DecimalLaws::length_places))]
+    fn count(self) -> usize {
+        self.count
+    }
+
+    #[tactic(auto, using(rules::proofs::DecimalLaws::length_places))]
+    fn front(self, count: usize) -> Places {
+        Places {
+            count,
+            v: front_places(self.v, self.count, count),
+        }
+    }
+
+    #[tactic(auto, using(rules::proofs::DecimalLaws::length_places))]
+    fn lay(self, out: &mut [u8], at: usize) {
+        numbers::write_places(out, at, self.count, self.v)
+    }
+}
+
+// ## Writes
+
+// What doesn't fit: what does is written by a call of itself, so that a compiler keeps this out of line and the way of a write that fits
+// stays short. A run goes this way where it fits too: hardly a plain directive has one.
+pub fn put_short<S: Source>(out: &mut [u8], at: usize, room: usize, source: S) -> usize
     requires { Room out.old room }
-    ensures { (limit : ℕ) → Ran limit room (event.write (event.put (places count v)) ∷ []) out.old at out.new result }
+    ensures { (limit : ℕ) → Ran limit room (event.write (event.put (S.bytes source)) ∷ []) out.old at out.new result }
 {
+    let count = source.count();
     if fits(at, count, out.len()) {
-        numbers::write_places(out, at, count, v);
+        source.lay(out, at);
         return at + count;
     }
     if at < out.len() {
         let left = out.len() - at;
-        let end = places_short(out, at, room, left, front_places(v, count, left));
+        let end = put_short(out, at, room, source.front(left));
         return missed(at, count, room);
     }
     missed(at, count, room)
 }
 
-// ## Writes
+pub fn put_source<S: Source>(out: &mut [u8], at: usize, room: usize, source: S) -> usize
+    requires { Room out.old room }
+    ensures { (limit : ℕ) → Ran limit room (event.write (event.put (S.bytes source)) ∷ []) out.old at out.new result }
+{
+    let count = source.count();
+    if fits(at, count, out.len()) {
+        source.lay(out, at);
+        return at + count;
+    }
+    put_short(out, at, room, source)
+}
 
-// Few bytes.
 pub fn put(out: &mut [u8], at: usize, room: usize, src: &[u8]) -> usize
     requires { Room out.old room }
     ensures { (limit : ℕ) → Ran limit room (event.write (event.put src.now) ∷ []) out.old at out.new result }
 {
-    let count = src.len();
-    if fits(at, count, out.len()) {
-        copy(out, at, src);
-        return at + count;
-    }
-    copy_clipped(out, at, src);
-    missed(at, count, room)
-}
-
-// Bytes whose number is known only when it runs.
-pub fn put_slice(out: &mut [u8], at: usize, room: usize, src: &[u8]) -> usize
-    requires { Room out.old room }
-    ensures { (limit : ℕ) → Ran limit room (event.write (event.put src.now) ∷ []) out.old at out.new result }
-{
-    let count = src.len();
-    if fits(at, count, out.len()) {
-        copy(out, at, src);
-        return at + count;
-    }
-    put_short(out, at, room, src)
+    put_source(out, at, room, Bytes(src))
 }
 
 // The bytes of `src` from `from` up to `end`.
@@ -243,7 +276,7 @@ pub fn put_part(
     requires { Room out.old room × (from ≤ end) × (end ≤ length src.now) }
     ensures { (limit : ℕ) → Ran limit room (event.write (event.put (take (end - from) (drop from src.now))) ∷ []) out.old at out.new result }
 {
-    put_slice(out, at, room, &src[from..end])
+    put(out, at, room, &src[from..end])
 }
 
 // A pad, tested whole against the limit, then against the room.
@@ -255,12 +288,12 @@ pub fn pad(out: &mut [u8], at: usize, room: usize, limit: usize, byte: u8, count
         return at;
     }
     if count == 0 || fits(at, count, limit) {
-        return run_short(out, at, room, byte, count);
+        return put_short(out, at, room, Run { byte, count });
     }
     refused(3, at)
 }
 
-// The pad of no bytes.
+// The pad of no bytes: one test where it ends within the slice, and no call of `pad`.
 pub fn pad_none(out: &mut [u8], at: usize, room: usize, limit: usize) -> usize
     requires { Room out.old room }
     ensures { (byte : ℕ) → Ran limit room (event.write (event.pad byte 0) ∷ []) out.old at out.new result }
@@ -271,6 +304,7 @@ pub fn pad_none(out: &mut [u8], at: usize, room: usize, limit: usize) -> usize
     pad(out, at, room, limit, b' ', 0)
 }
 
+// This and `put_two` store by hand: by `put` a stamp of ten directives takes 1.1 of the time.
 pub fn put_byte(out: &mut [u8], at: usize, room: usize, byte: u8) -> usize
     requires { Room out.old room }
     ensures { (limit : ℕ) → Ran limit room (event.write (event.put (byte ∷ [])) ∷ []) out.old at out.new result }
@@ -292,7 +326,8 @@ pub fn put_two(out: &mut [u8], at: usize, room: usize, v: u8) -> usize
         out[at + 1] = numbers::ones(v);
         return at + 2;
     }
-    places_short(out, at, room, 2, v as u64)
+    let v = v as u64;
+    put_short(out, at, room, Places { count: 2, v })
 }
 
 // The last `count` decimal digits of v, with zeros in front where v has fewer.
@@ -300,11 +335,7 @@ pub fn put_places(out: &mut [u8], at: usize, room: usize, count: usize, v: u64) 
     requires { Room out.old room }
     ensures { (limit : ℕ) → Ran limit room (event.write (event.put (places count v)) ∷ []) out.old at out.new result }
 {
-    if fits(at, count, out.len()) {
-        numbers::write_places(out, at, count, v);
-        return at + count;
-    }
-    places_short(out, at, room, count, v)
+    put_source(out, at, room, Places { count, v })
 }
 
 // The first `count` bytes of `src`, over those of `out`.
@@ -312,5 +343,5 @@ pub fn copy_front(out: &mut [u8], src: &[u8], count: usize)
     requires { (count ≤ length out.old) × (count ≤ length src.now) }
     ensures { out.new ≡ take count src.now ++ drop count out.old }
 {
-    copy(out, 0, &src[..count])
+    out[..count].copy_from_slice(&src[..count])
 }

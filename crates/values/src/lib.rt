@@ -8,11 +8,12 @@ ghost use Rattle.week.specs.Start.{start_of};
 ghost use Rattle.values.specs.Value.{ValueIs};
 ghost use Rattle.values.specs.Inner.{Valued, InWeek, Weekly, OfIsoWeek};
 
+use numbers::{Integer, Year};
 use printing::year_width;
 use rules::{IsoWeek, Number, Record};
 use week::WeekStart;
 
-// What a number directive prints. `space`: its own fill is a space.
+// What a number directive prints. `space`: its own fill is a space. `ok` is no Option: `fill` and `narrow` of `ValueIs` hold on a refusal too.
 #[derive(Clone, Copy)]
 pub struct Value {
     pub ok: bool,
@@ -21,44 +22,42 @@ pub struct Value {
     pub space: bool,
 }
 
+fn or_if_zero(other: u8, n: u8) -> u8
+    ensures { result ≡ or_if_zero other n }
+{
+    if n == 0 { other } else { n }
+}
+
 pub fn hour12(hour: u8) -> u8
     ensures { result ≡ hour12 hour }
 {
-    let hour = hour % 12;
-    if hour == 0 { 12 } else { hour }
+    or_if_zero(12, hour % 12)
 }
 
 // Sunday is 7.
 pub fn from_1(day_of_week: u8) -> u8
     ensures { result ≡ or_if_zero 7 day_of_week }
 {
-    if day_of_week == 0 { 7 } else { day_of_week }
+    or_if_zero(7, day_of_week)
 }
 
 // A number whose own fill is zeros.
-fn wide(ok: bool, number: i64, width: usize) -> Value
+fn zeros<N: Integer>(ok: bool, number: N, width: usize) -> Value
     requires { width ≤ 5 }
-    ensures { Valued ok number width false result }
+    ensures { Valued ok (N.number number) width false result }
 {
     Value {
         ok,
-        number,
+        number: number.into(),
         width,
         space: false,
     }
 }
 
-fn zeros(ok: bool, number: u8, width: usize) -> Value
-    requires { width ≤ 5 }
-    ensures { Valued ok (pos number) width false result }
-{
-    wide(ok, number as i64, width)
-}
-
 fn year(ok: bool, year: i64) -> Value
     ensures { Valued ok year (year_width year) false result }
 {
-    wide(ok, year, year_width(year))
+    zeros(ok, year, year_width(year))
 }
 
 // A number whose own fill is spaces.
@@ -66,14 +65,12 @@ fn spaces(ok: bool, number: u8) -> Value
     ensures { Valued ok (pos number) 2 true result }
 {
     Value {
-        ok,
-        number: number as i64,
-        width: 2,
         space: true,
+        ..zeros(ok, number, 2)
     }
 }
 
-// The ISO year and week of a day that is in range, else zeros.
+// The ISO year and week of a day that is in range, else zeros. No Option: a caller has the answer of `fields::week` beside it already.
 pub fn iso(record: Record) -> IsoWeek
     ensures { InWeek «record» → result ≡ iso_week «record».year «record».day_of_week «record».day_of_year }
 {
@@ -84,6 +81,7 @@ pub fn iso(record: Record) -> IsoWeek
     }
 }
 
+// 0 where the day is not in range: the caller asks that anyway.
 pub fn week_of(record: Record, week_start: WeekStart) -> u8
     ensures { InWeek «record» → result ≡ week_number (start_of week_start) «record».day_of_week «record».day_of_year }
 {
@@ -108,7 +106,7 @@ fn iso_value(number: Number, record: Record) -> Value
     let iso = iso(record);
     match number {
         Number::YearIso8601 => year(fields::week(record), iso.year),
-        Number::YearIso8601Rem100 => weekly(record, numbers::rem_euclid_100_wide(iso.year)),
+        Number::YearIso8601Rem100 => weekly(record, iso.year.rem_euclid_100()),
         _ => weekly(record, iso.week),
     }
 }
@@ -118,12 +116,12 @@ pub fn value_of(number: Number, record: Record) -> Value
 {
     match number {
         Number::Year4Digits => year(true, record.year as i64),
-        Number::YearDiv100 => wide(true, numbers::div_euclid_100(record.year) as i64, 2),
-        Number::YearRem100 => zeros(true, numbers::rem_euclid_100(record.year), 2),
+        Number::YearDiv100 => zeros(true, numbers::div_euclid_100(record.year), 2),
+        Number::YearRem100 => zeros(true, record.year.rem_euclid_100(), 2),
         Number::Month => zeros(fields::month(record), record.month, 2),
         Number::MonthDayZero => zeros(fields::day(record), record.day, 2),
         Number::MonthDaySpace => spaces(fields::day(record), record.day),
-        Number::YearDay => wide(fields::day_of_year(record), record.day_of_year as i64, 3),
+        Number::YearDay => zeros(fields::day_of_year(record), record.day_of_year, 3),
         Number::Hour24hZero => zeros(fields::hour(record), record.hour, 2),
         Number::Hour24hSpace => spaces(fields::hour(record), record.hour),
         Number::Hour12hZero => zeros(fields::hour(record), hour12(record.hour), 2),
@@ -137,6 +135,6 @@ pub fn value_of(number: Number, record: Record) -> Value
         }
         Number::WeekNumberFromSunday => weekly(record, week_of(record, WeekStart::Sunday)),
         Number::WeekNumberFromMonday => weekly(record, week_of(record, WeekStart::Monday)),
-        Number::SecondsSinceEpoch => wide(true, record.to_int, 1),
+        Number::SecondsSinceEpoch => zeros(true, record.to_int, 1),
     }
 }

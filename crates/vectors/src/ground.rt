@@ -1,15 +1,7 @@
 // The ground that a stamp is written on: the buffer, with guard bytes before and behind it.
-ghost use Rattle.std.specs.Prelude.{◌+◌, ◌≤◌, length};
-ghost use Rattle.lines.specs.Within.{Holds};
-ghost use Rattle.vectors.specs.Within.{PlaceWithin};
+ghost use Rattle.std.specs.Prelude.{◌+◌, ◌≤◌, ◌<◌, length, IfSome};
 
 pub const GUARD: usize = 64;
-
-#[derive(Clone, Copy)]
-pub enum Place {
-    At(usize),
-    Nowhere,
-}
 
 // What stands at a place before the formatter is asked.
 fn pattern(place: usize) -> u8 {
@@ -17,39 +9,25 @@ fn pattern(place: usize) -> u8 {
 }
 
 pub fn set(ground: &mut [u8]) {
-    let mut i = 0;
-    while i < ground.len() {
-        ground[i] = pattern(i);
-        i += 1;
+    for (place, byte) in ground.iter_mut().enumerate() {
+        *byte = pattern(place);
     }
 }
 
 // The first place from `from` on that was changed.
-pub fn changed(ground: &[u8], from: usize, end: usize) -> Place
+pub fn changed(ground: &[u8], from: usize, end: usize) -> Option<usize>
     requires { end ≤ length ground.now }
-    ensures { Holds (PlaceWithin from end) result }
+    ensures { IfSome result (λ place. (from ≤ place) × (place < end)) }
 {
-    let mut i = from;
-    while i < end {
-        if ground[i] != pattern(i) {
-            return Place::At(i);
-        }
-        i += 1;
-    }
-    Place::Nowhere
+    (from..end).find(|place| ground[*place] != pattern(*place))
 }
 
 // The first place at which the ground, from `from` on, has another byte than the text.
-pub fn other(text: &[u8], ground: &[u8], from: usize) -> Place
+pub fn other(text: &[u8], ground: &[u8], from: usize) -> Option<usize>
     requires { from + length text.now ≤ length ground.now }
-    ensures { Holds (PlaceWithin 0 (length text.now)) result }
+    ensures { IfSome result (λ place. place < length text.now) }
 {
-    let mut i = 0;
-    while i < text.len() {
-        if ground[from + i] != text[i] {
-            return Place::At(i);
-        }
-        i += 1;
-    }
-    Place::Nowhere
+    text.iter()
+        .zip(&ground[from..])
+        .position(|(due, given)| due != given)
 }

@@ -4,12 +4,11 @@
 mod difference;
 mod ground;
 mod replay;
-mod report;
 
 const STDIN_FILENO: i32 = 0;
 
 // The list is to be shorter than what holds it, so that its end was read.
-fn replay_input(list: &mut [u8]) {
+fn replay_input(list: &mut [u8; 1048576]) {
     let count = io::read_full(STDIN_FILENO, list);
     if count == 0 {
         say::text(b"there is no list\n");
@@ -22,12 +21,7 @@ fn replay_input(list: &mut [u8]) {
     replay::replay(&list[..count]);
 }
 
-// An array's length is known without a proof only where it is lent as an array.
-fn replay_in(list: &mut [u8; 1048576]) {
-    replay_input(list);
-}
-
 fn main() {
     let mut list = [0u8; 1048576];
-    replay_in(&mut list);
+    replay_input(&mut list);
 }

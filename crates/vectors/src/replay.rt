@@ -1,69 +1,33 @@
 // Replays one line of the list after the other.
-ghost use Rattle.std.specs.Prelude.{◌+◌, ◌≤◌, length};
+ghost use Rattle.std.specs.Prelude.{◌≤◌, length};
 
-use crate::difference::{Compared, Difference, compare};
+use crate::difference::{Difference, compare};
 use crate::ground::{GUARD, set};
-use crate::report::{report, report_counts};
-use lines::{Line, read_line};
-use rules::Record;
+use lines::read_line;
 
-// The buffer is the ground but for the guard bytes.
-fn replay_case(
-    format: &[u8],
-    zone: &[u8],
-    record: Record,
-    answer: u64,
-    text: &[u8],
-    ground: &mut [u8],
-) -> Compared
-    requires { 128 + length text.now ≤ length ground.old }
-{
-    set(ground);
-    let end = ground.len() - GUARD;
-    let given = strftime::format(format, zone, record, &mut ground[GUARD..end]);
-    compare(given, answer, text, ground)
-}
-
-// The buffer has exactly as many bytes as the line says.
+// The buffer is the ground but for the guard bytes, and has exactly as many bytes as the line says. The four lent buffers are no
+// struct: a slice lent from one field of a `&mut` beside the others gets no proof yet.
 fn replay_line(
     line: &[u8],
     format: &mut [u8],
     zone: &mut [u8],
     text: &mut [u8],
     ground: &mut [u8],
-) -> Compared
+) -> Result<(), Difference>
     requires { 65664 ≤ length ground.old }
 {
-    let Line::Case(case) = read_line(line, format, zone, text) else {
-        return Compared::Other(Difference::Unread);
-    };
-    let format_count = case.format;
-    let zone_count = case.zone;
-    let text_count = case.text;
-    let record = case.record;
-    let whole = case.room + 2 * GUARD;
-    replay_case(
-        &format[..format_count],
-        &zone[..zone_count],
-        record,
-        case.answer,
-        &text[..text_count],
-        &mut ground[..whole],
-    )
-}
-
-fn line_end(list: &[u8], from: usize) -> usize
-    requires { from ≤ length list.now }
-    ensures { (from ≤ result) × (result ≤ length list.now) }
-{
-    let mut i = from;
-    while i < list.len() {
-        if list[i] == b'\n' {
-            return i;
-        }
-        i += 1;
-    }
-    i
+    let case = read_line(line, format, zone, text).ok_or(Difference::Unread)?;
+    let end = GUARD + case.room;
+    let ground = &mut ground[..end + GUARD];
+    set(ground);
+    let given = strftime::format(
+        &format[..case.format],
+        &zone[..case.zone],
+        case.record,
+        &mut ground[GUARD..end],
+    );
+    let count = say::answer_bytes(case.answer);
+    compare(given, case.answer, &text[..count], ground)
 }
 
 fn replay_lines(list: &[u8], format: &mut [u8], zone: &mut [u8], text: &mut [u8], ground: &mut [u8])
@@ -71,18 +35,15 @@ fn replay_lines(list: &[u8], format: &mut [u8], zone: &mut [u8], text: &mut [u8]
 {
     let mut answers: u64 = 0;
     let mut differ: u64 = 0;
-    let mut at = 0;
-    while at < list.len() {
-        let end = line_end(list, at);
-        let compared = replay_line(&list[at..end], format, zone, text, ground);
-        at = end + 1;
+    for line in list.split_inclusive(|byte| *byte == b'\n') {
+        let line = line.strip_suffix(b"\n").unwrap_or(line);
         answers += 1;
-        if let Compared::Other(difference) = compared {
-            report(answers, difference);
+        if let Err(difference) = replay_line(line, format, zone, text, ground) {
+            say::shown(format_args!("line {answers}: {difference}\n"));
             differ += 1;
         }
     }
-    report_counts(answers, differ);
+    say::shown(format_args!("{answers} answers replayed, {differ} differ\n"));
 }
 
 pub fn replay(list: &[u8]) {

@@ -1,4 +1,5 @@
 -- A directive of two bytes: `-` and a letter, a colon and `z`; and the step of the walk that it is.
+use Rattle.std.specs.Prelude.{None}
 use mathlib.Core.Path.{◌≡◌, sym, ap, ◌∙◌}
 use mathlib.Core.List.{List, [], ◌∷◌}
 use Prim.Native.Nat.{ℕ, ◌+◌, ◌<◌}
@@ -12,7 +13,6 @@ use Rattle.rules.specs.declared.Reading.{Reading}
 use Rattle.rules.specs.declared.Reading.TheVariants.{InFlags, InColons}
 use Rattle.rules.specs.declared.Spec.TheVariants.{Offset as offset}
 use Rattle.rules.specs.declared.Turn.TheVariants.{More, Found}
-use Rattle.rules.specs.declared.Width.TheVariants.{Unset}
 use Rattle.rules.specs.Decimal.{decimal_text}
 use Rattle.rules.specs.Event.{put, write}
 use Rattle.rules.specs.Reading.{outset, on_flag, spec_of, on_letter, on_colons, turn}
@@ -35,13 +35,13 @@ left_mark : {b : ℕ} → b ≡ 45 → More (InFlags left_flag) ≡ turn (InFlag
 unfolding turn on_flag
 left_mark e = sym (ap (turn (InFlags outset)) e)
 
-colon_mark : {b : ℕ} → b ≡ 58 → More (InColons outset Unset 1) ≡ turn (InFlags outset) b
+colon_mark : {b : ℕ} → b ≡ 58 → More (InColons outset None 1) ≡ turn (InFlags outset) b
 unfolding turn on_flag on_letter
 colon_mark e = sym (ap (turn (InFlags outset)) e)
 
-colon_end : {b : ℕ} → b ≡ 122 → Found (plain_piece (offset TimeZoneOffsetHourMinuteColon)) ≡ turn (InColons outset Unset 1) b
+colon_end : {b : ℕ} → b ≡ 122 → Found (plain_piece (offset TimeZoneOffsetHourMinuteColon)) ≡ turn (InColons outset None 1) b
 unfolding turn on_colons
-colon_end e = sym (ap (turn (InColons outset Unset 1)) e)
+colon_end e = sym (ap (turn (InColons outset None 1)) e)
 
 -- ## The step
 
@@ -60,10 +60,10 @@ module _ {limit room : ℕ} {r : Record} {zone format : List ℕ} {i : ℕ} {l l
   unfolding events_of
   step_short f g h k e w =
       let entry = ap spec_of (sym h) ∙ k.entry in
-      by_two (InFlags left_flag) (left_piece k.spec) (letter_there format (i + 2) k.spec entry) (left_mark (sym f ∙ g)) (sym (letter_ends left_flag Unset tt _ k.spec entry)) e (k.runs zone w)
+      by_two (InFlags left_flag) (left_piece k.spec) (letter_there format (i + 2) k.spec entry) (left_mark (sym f ∙ g)) (sym (letter_ends left_flag None tt _ k.spec entry)) e (k.runs zone w)
 
   -- a colon and `z`
   pub step_colon : {a b : ℕ} → a ≡ get_or format (i + 1) 0 → a ≡ 58 → b ≡ get_or format (i + 2) 0 → b ≡ 122 → s.next ≡ i + 3 → Ran limit room (spec_events (offset TimeZoneOffsetHourMinuteColon) (plain_piece (offset TimeZoneOffsetHourMinuteColon)) r zone) l n l' s.at → Stepped limit room r zone format i l n l' s
   unfolding events_of
   step_colon f g h k e w =
-      by_two (InColons outset Unset 1) (plain_piece (offset TimeZoneOffsetHourMinuteColon)) (byte_there format (i + 2) (λ z. omega arith)) (colon_mark (sym f ∙ g)) (colon_end (sym h ∙ k)) e w
+      by_two (InColons outset None 1) (plain_piece (offset TimeZoneOffsetHourMinuteColon)) (byte_there format (i + 2) (λ z. omega arith)) (colon_mark (sym f ∙ g)) (colon_end (sym h ∙ k)) e w

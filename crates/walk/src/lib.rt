@@ -16,8 +16,8 @@ use letters::short::{put_short, short_of};
 use letters::{NOT_A_LETTER, letter};
 use offset_directive::plain_offset;
 use reading::literal_end;
-use rules::{Offset, Parsed, Record};
-use text::{copy_front, is_refused, judged, put_part};
+use rules::{Offset, Parsed, Record, Refusal};
+use text::{copy_front, is_refused, put_part, refused_at};
 
 // Where an item ends: the place in the text, and the position in the format.
 #[derive(Clone, Copy)]
@@ -26,7 +26,8 @@ struct Step {
     next: usize,
 }
 
-// What starts at the percent sign at `i`: a directive, an echo, or the format's end inside a directive.
+// What starts at the percent sign at `i`: a directive, an echo, or the format's end inside a directive. Taken apart by `let .. else`, a form that 01
+// names (docs/DECISIONS.md).
 fn parsed_item(
     format: &[u8],
     i: usize,
@@ -44,7 +45,7 @@ fn parsed_item(
     let Parsed::Directive(piece, next) = parsed else {
         let Parsed::Echo(end) = parsed else {
             return Step {
-                at: judged(at, 2),
+                at: refused_at(at, Refusal::InvalidFormatString),
                 next: format.len(),
             };
         };
@@ -63,10 +64,7 @@ fn parsed_item(
 fn byte_at(format: &[u8], i: usize) -> u8
     ensures { result ≡ get_or format.now i 0 }
 {
-    if i < format.len() {
-        return format[i];
-    }
-    0
+    format.get(i).copied().unwrap_or(0)
 }
 
 // The same, with `%-d` and its like and `%:z` read straight off.
@@ -86,8 +84,7 @@ fn marked_item(
     let mark = byte_at(format, i + 1);
     let b = byte_at(format, i + 2);
     if mark == b'-' {
-        let short = short_of(b, record);
-        if short < 100 {
+        if let Some(short) = short_of(b, record) {
             return Step {
                 at: put_short(out, at, room, short),
                 next: i + 3,
@@ -105,7 +102,7 @@ fn marked_item(
 }
 
 // All of a format from position `from` and place `start` on: literal bytes and items, to its end. A letter right after the percent sign is a
-// directive with no flag and no width: it needs no parser.
+// directive with no flag and no width: it needs no parser. The position goes on by what was read, so no iterator counts it; so in `stamp`.
 pub fn run_from(
     format: &[u8],
     from: usize,
@@ -165,17 +162,13 @@ fn copy_literal(out: &mut [u8], place: usize, format: &[u8], from: usize) -> usi
     requires { (place ≤ length out.old) × (from ≤ length format.now) }
     ensures { Copied format.now from out.old place out.new result }
 {
-    let mut at = place;
-    let mut i = from;
-    while i < format.len() && at < out.len() {
-        if format[i] == b'%' {
-            return i;
+    for (n, b) in format[from..].iter().enumerate() {
+        if *b == b'%' || out.len() <= place + n {
+            return from + n;
         }
-        out[at] = format[i];
-        at += 1;
-        i += 1;
+        out[place + n] = *b;
     }
-    i
+    format.len()
 }
 
 // The text outgrows the scratch, or is refused: the rest from position `i` and from `place` on is counted, with no slice to write to. If it

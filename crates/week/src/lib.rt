@@ -11,17 +11,8 @@ use rules::IsoWeek;
 
 #[derive(Clone, Copy)]
 pub enum WeekStart {
-    Sunday,
-    Monday,
-}
-
-fn start_of(week_start: WeekStart) -> u16
-    ensures { result ≡ start_of week_start }
-{
-    match week_start {
-        WeekStart::Sunday => 0,
-        WeekStart::Monday => 1,
-    }
+    Sunday = 0,
+    Monday = 1,
 }
 
 // The week number, beginning at the provided start day of the week.
@@ -30,7 +21,7 @@ pub fn week_number(week_day: u8, year_day_1: u16, week_start: WeekStart) -> u8
     ensures { result ≡ week_number (start_of week_start) week_day year_day_1 }
 {
     let year_day = year_day_1 - 1;
-    let start_of_first_week = (year_day + 7 - week_day as u16 + start_of(week_start)) % 7;
+    let start_of_first_week = (year_day + 7 - week_day as u16 + week_start as u16) % 7;
     ((year_day + 7 - start_of_first_week) / 7) as u8
 }
 

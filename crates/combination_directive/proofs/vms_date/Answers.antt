@@ -1,4 +1,5 @@
 -- The fields checked; the day, the raised month and the year put.
+use mathlib.Core.Bool.{true}
 use mathlib.Core.List.{[], ◌∷◌, flatten, append-nil}
 use native.Mathlib.Omega.{arith}
 use Rattle.rules.specs.declared.Combination.TheVariants.{CombinationVmsDate}
@@ -6,29 +7,29 @@ use Rattle.rules.specs.Record.{month, day}
 use Rattle.rules.specs.Writing.{combination_fields, combination_text}
 use Rattle.text.proofs.RanLaws.{◌then◌, joined}
 use Rattle.numbers.proofs.Signed.{widened}
-use Rattle.combination_directive.proofs.CombinedLaws.{judgeable, Held, held_by, failed, written}
+use Rattle.names.proofs.CalendarLaws.{month_letters}
+use Rattle.combination_directive.proofs.CombinedLaws.{Held, held_by, failed, written}
 use borrow.Author.Rules.{rules}
 use Rattle.combination_directive.proofs.vms_date.Goals as goal
-use Rattle.combination_directive.proofs.vms_date.Goals.{Else-verdict-ne0}
+use Rattle.combination_directive.proofs.vms_date.Goals.{In_default}
 
-held : (c : Else-verdict-ne0) → Held (month ∷ day ∷ []) c.args.«record»
-held c = held_by c.date.ensures c.verdict-verdict.ensures c.if-verdict-ne0.false
+held : (c : In_default) → Held (month ∷ day ∷ []) c.args.«record»
+held c = held_by c.date.ensures c.verdict.ensures c.in_default.is
 
-pub judged-requires : goal.judged-requires
-judged-requires c = judgeable _ c.verdict-verdict.ensures
-
-pub returns-then-verdict-ne0 : goal.returns-then-verdict-ne0
+pub returns-in-Err : goal.returns-in-Err
 unfolding combination_fields
-returns-then-verdict-ne0 c = λ upper. failed CombinationVmsDate _ c.date.ensures c.verdict-verdict.ensures c.if-verdict-ne0.true c.judged.ensures
+returns-in-Err c = λ upper. failed CombinationVmsDate _ c.date.ensures c.verdict.ensures c.in-Err.is c.refused_at.ensures
 
 pub spaced_digits-day-requires : goal.spaced_digits-day-requires
-spaced_digits-day-requires c = omega (arith, (held (goal.at.spaced_digits-day-requires c).Else-verdict-ne0).ranges)
+spaced_digits-day-requires c = omega (arith, (held (goal.at.spaced_digits-day-requires c).In_default).ranges)
 
-pub month_three-month_name-requires : goal.month_three-month_name-requires
-month_three-month_name-requires c = (held (goal.at.month_three-month_name-requires c).Else-verdict-ne0).ranges.0
+pub three-month_name-requires : goal.three-month_name-requires
+three-month_name-requires c = (held (goal.at.three-month_name-requires c).In_default).ranges.0
 
 pub returns : goal.returns
 unfolding combination_fields combination_text flatten
 returns c =
     let year = widened c.args.«record».year (search rules) in
-    λ upper. written CombinationVmsDate _ (held (goal.at.returns c).Else-verdict-ne0) (λ f e. rw (year, ← c.spaced_digits-day.ensures, ← c.month_three-month_name.ensures, append-nil)) (λ limit. joined (c.put-next.ensures limit then c.put_decimal.ensures limit))
+    let k = held (goal.at.returns c).In_default in
+    let name = month_letters true k.ranges.0.0 k.ranges.0.1 c.three-month_name.ensures in
+    λ upper. written CombinationVmsDate _ k (λ f e. rw (year, ← c.spaced_digits-day.ensures, ← name, append-nil)) (λ limit. joined (c.put-next.ensures limit then c.put_decimal.ensures limit))

@@ -11,4 +11,4 @@ unfolding events_of
 returns-in-Fraction c =
     let p = c.args.piece in
     by_kind p _ _ c.in-Fraction.is
-    (fraction_run _ p _ _ (c.width_or.ensures ∙ ap (λ (n : ℕ). width_or p.width n) c.fraction_digits.ensures) (c.fraction.ensures _ _))
+    (fraction_run _ p _ _ (c.unwrap_or.ensures ∙ ap (λ (n : ℕ). width_or p.width n) c.fraction_digits.ensures) (c.fraction.ensures _ _))

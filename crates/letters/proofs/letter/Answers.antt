@@ -210,7 +210,7 @@ unfolding look_up possible_specs value_of default_width fill_of number_fields
 returns-in-103 c =
     let iso = c.iso-in-103 in
     let year = to_z-of_z w64 iso.result.year (omega arith) in
-    let rem = c.rem_euclid_100_wide.ensures ∙ ap (λ (y : ℤ). floor_mod y 100) year in
+    let rem = c.rem_euclid_100.ensures ∙ ap (λ (y : ℤ). floor_mod y 100) year in
     of_value _ _ YearIso8601Rem100 c.in-103.is refl (week_checked refl refl refl (λ w. ap pos (rem ∙ ap (λ (i : IsoWeek). floor_mod i.year 100) (iso.ensures w))) (weekly c.week-in-103.ensures (exact (lit≤ tt)))) c.two_or-in-103.ensures
 
 -- YearDay
@@ -278,7 +278,7 @@ pub returns-in-121 : goal.returns-in-121
 unfolding look_up possible_specs value_of default_width fill_of number_fields
 returns-in-121 c =
     let year = to_z-of_z w32 c.args.«record».year (omega arith) in
-    of_value _ _ YearRem100 c.in-121.is refl (unchecked refl refl refl (ap pos (c.rem_euclid_100.ensures ∙ ap (λ (y : ℤ). floor_mod y 100) year)) (exact (lit≤ tt))) c.two_or-in-121.ensures
+    of_value _ _ YearRem100 c.in-121.is refl (unchecked refl refl refl (ap pos (c.rem_euclid_100-in-121.ensures ∙ ap (λ (y : ℤ). floor_mod y 100) year)) (exact (lit≤ tt))) c.two_or-in-121.ensures
 
 -- TimeZoneOffsetHourMinute
 pub returns-in-122 : goal.returns-in-122

@@ -3,18 +3,21 @@ use mathlib.Core.Path.{sym, ◌∙◌}
 use Rattle.text.proofs.RanLaws.{said}
 use Rattle.name_directive.proofs.CaseLaws.{zone_lowered, zone_raised, zone_same}
 use Rattle.name_directive.proofs.put_zone.Goals as goal
+use Rattle.name_directive.proofs.put_zone.Goals.{then-lowered-via-then-lowered, then-lowered-via-else-lowered+then-contains}
 
-pub returns-then-contains : goal.returns-then-contains
-returns-then-contains c =
+pub returns-then-lowered : goal.returns-then-lowered
+returns-then-lowered c =
     let a = c.args in
-    λ limit. said (zone_lowered a.flags a.zone.now (sym c.contains.ensures ∙ c.if-contains.true)) (c.put_cased.ensures limit)
-
-pub returns-then-contains-2 : goal.returns-then-contains-2
-returns-then-contains-2 c =
-    let a = c.args in
-    λ limit. said (zone_raised a.flags a.zone.now (sym c.contains.ensures ∙ c.if-contains.false) (sym c.contains-2.ensures ∙ c.if-contains-2.true)) (c.put_cased-then-contains-2.ensures limit)
+    let change = c.contains-lowered.ensures in
+    λ limit.
+    said
+    (elim c.then-lowered.branch [
+      | then-lowered-via-then-lowered w ↦ rw w.if-lowered.true (zone_lowered a.flags a.zone.now (sym change ∙ w.if-lowered.true))
+      | then-lowered-via-else-lowered+then-contains w ↦ rw w.if-lowered.false (zone_raised a.flags a.zone.now (sym change ∙ w.if-lowered.false) (sym w.contains.ensures ∙ w.if-contains.true))
+    ])
+    (c.put_short.ensures limit)
 
 pub returns : goal.returns
 returns c =
     let a = c.args in
-    λ limit. said (zone_same a.flags a.zone.now (sym c.contains.ensures ∙ c.if-contains.false) (sym c.contains-2.ensures ∙ c.if-contains-2.false)) (c.put_slice.ensures limit)
+    λ limit. said (zone_same a.flags a.zone.now (sym c.contains-lowered.ensures ∙ c.if-lowered.false) (sym c.contains.ensures ∙ c.if-contains.false)) (c.put.ensures limit)

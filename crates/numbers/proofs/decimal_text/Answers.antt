@@ -6,18 +6,16 @@ use mir.Syntax.{w64}
 use mir.ValLaws.{to_z-of_z}
 use Rattle.rules.specs.Decimal.{minus_sign}
 use Rattle.rules.proofs.DecimalLaws.{count_le}
-use Rattle.numbers.proofs.Signed.{is_neg, is_pos, abs_le}
+use Rattle.numbers.proofs.Signed.{is_neg, is_pos}
 use Rattle.numbers.proofs.TextLaws.{printed}
 use Rattle.numbers.proofs.decimal_text.Goals as goal
 use Rattle.numbers.proofs.decimal_text.Goals.{Joined-v-lt0, then-v-lt0, else-v-lt0}
 
-size_is : (c : Joined-v-lt0) → c.unsigned_abs64-size.result ≡ nat_abs c.args.v
-size_is c = c.unsigned_abs64-size.ensures ∙ ap nat_abs (to_z-of_z w64 _ c.ranges.v)
+size_is : (c : Joined-v-lt0) → c.unsigned_abs-size.result ≡ nat_abs c.args.v
+size_is c = c.unsigned_abs-size.ensures.value ∙ ap nat_abs (to_z-of_z w64 _ c.ranges.v)
 
 n_small : (c : Joined-v-lt0) → c.digit_count-n.result ≤ 19
-n_small c =
-    let m = c.unsigned_abs64-size.result in
-    omega (arith, count_le 18 m (omega (arith, size_is c, abs_le c.args.v, c.ranges.v.sfits)))
+n_small c = omega (arith, count_le 18 c.unsigned_abs-size.result (omega (arith, c.unsigned_abs-size.ensures.bound)))
 
 sign_small : (c : Joined-v-lt0) → c.if-v-lt0.sign ≤ 1
 sign_small c = elim c.if-v-lt0.branch [ then-v-lt0 w ↦ omega arith | else-v-lt0 w ↦ omega arith ]

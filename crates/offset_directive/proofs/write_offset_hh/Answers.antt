@@ -1,8 +1,8 @@
 -- Hours alone.
-use Rattle.rules.specs.Offset.{length_of_form}
+use Rattle.offset_directive.specs.Form.{as_form}
 use Rattle.offset_directive.proofs.WriteLaws.{hour_alone}
 use Rattle.offset_directive.proofs.write_offset_hh.Goals as goal
 
 pub returns : goal.returns
-unfolding length_of_form
+unfolding as_form
 returns c = hour_alone _ _ _ c.write_offset_hour.ensures

@@ -5,5 +5,5 @@ use Rattle.offset_directive.proofs.write_offset_hour.Goals as goal
 
 pub returns : goal.returns
 returns c =
-    (rw c.saturating_sub.ensures at c.write_sign_and_pad-first.ensures)
+    (rw (c.saturating_sub.ensures, c.length.ensures.places) at c.write_sign_and_pad-first.ensures)
     then said (digits_counted _ c.digit_count.ensures) (c.put_places.ensures _)

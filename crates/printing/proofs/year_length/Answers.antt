@@ -3,7 +3,7 @@ use Rattle.std.specs.Prelude.{◌≡◌, length}
 use native.Mathlib.Omega.{arith}
 use Rattle.rules.specs.Decimal.{decimal_text, zeros}
 use Rattle.rules.proofs.DecimalLaws.{length_text_to, length_filled}
-use Rattle.numbers.proofs.Signed.{widens, widened}
+use Rattle.numbers.proofs.Signed.{widened}
 use Rattle.printing.proofs.WriteLaws.{place_after}
 use Rattle.printing.proofs.year_length.Goals as goal
 use Rattle.printing.proofs.year_length.Goals.{After-put_decimal-length}
@@ -16,11 +16,5 @@ length_is c =
     let l = length_filled zeros 0 y in
     omega (arith, place_after t (omega (arith, length_text_to y (omega (arith, f.sfits)))) (omega arith))
 
-pub overflow_cast-year : goal.overflow_cast-year
-overflow_cast-year c = widens _ c.ranges.year
-
-pub returns-then-length-least : goal.returns-then-length-least
-returns-then-length-least c = omega (arith, length_is (goal.at.returns-then-length-least c).After-put_decimal-length, length_filled zeros c.args.least c.args.year)
-
-pub returns-else-length-least : goal.returns-else-length-least
-returns-else-length-least c = omega (arith, length_is (goal.at.returns-else-length-least c).After-put_decimal-length, length_filled zeros c.args.least c.args.year)
+pub returns : goal.returns
+returns c = omega (arith, c.max.ensures, length_is (goal.at.returns c).After-put_decimal-length, length_filled zeros c.args.least c.args.year)

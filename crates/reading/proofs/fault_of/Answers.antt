@@ -1,6 +1,7 @@
 -- What is left of the format has the fault of all of it.
 use mathlib.Core.Path.{refl, sym, ◌∙◌}
 use native.Mathlib.Omega.{arith}
+use Rattle.rules.specs.Refusal.{number_of, number_in_check}
 use Rattle.rules.specs.Format.{fault}
 use Rattle.reading.proofs.Positions.{items_at}
 use Rattle.reading.proofs.Faults.{fault_part, fault_run, fault_last}
@@ -32,7 +33,7 @@ loop-at-preserved-in-Echo c =
     ∙ c.loop-at.invariant
 
 pub returns-in-Cut : goal.returns-in-Cut
-unfolding fault
+unfolding fault number_in_check number_of
 returns-in-Cut c =
     fault_last _ _ _ ((items_at _ _).percent c.loop-at-test.true c.if-format-at-eq37.true _ (sym c.parse_spec-parsed.ensures ∙ c.in-Cut.is))
     ∙ c.loop-at.invariant
@@ -46,5 +47,5 @@ pub loop-at-preserved : goal.loop-at-preserved
 loop-at-preserved c = fault_run _ _ _ ((items_at _ _).run c.loop-at-test.true c.if-format-at-eq37.false _ c.literal_end-at.ensures) ∙ c.loop-at.invariant
 
 pub returns : goal.returns
-unfolding fault
+unfolding fault number_in_check
 returns c = fault_last _ _ _ ((items_at _ _).past c.loop-at-test.false) ∙ c.loop-at.invariant

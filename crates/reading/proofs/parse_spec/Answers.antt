@@ -8,22 +8,22 @@ pub loop-at-init : goal.loop-at-init
 loop-at-init c = rw c.outset-options.ensures
 
 pub width_with-requires : goal.width_with-requires
-width_with-requires c = sym c.is_digit.ensures ∙ c.if-is_digit.true
+width_with-requires c = sym c.is_ascii_digit.ensures.value ∙ c.if-is_ascii_digit.true
 
-pub returns-then-is_digit : goal.returns-then-is_digit
-returns-then-is_digit c =
+pub returns-then-is_ascii_digit : goal.returns-then-is_ascii_digit
+returns-then-is_ascii_digit c =
     c.parse_width.ensures
-    ∙ by_turn _ _ _ c.loop-at-test.true _ (flags_digit _ _ _ c.flag_step.ensures c.in_default.is (sym c.is_digit.ensures ∙ c.if-is_digit.true) _ c.width_with.ensures)
+    ∙ by_turn _ _ _ c.loop-at-test.true _ (flags_digit _ _ _ c.flag_step.ensures c.in_default.is (sym c.is_ascii_digit.ensures.value ∙ c.if-is_ascii_digit.true) _ c.width_with.ensures)
     ∙ c.loop-at.invariant
 
-pub returns-in_default : goal.returns-in_default
-returns-in_default c =
+pub returns-else-is_ascii_digit : goal.returns-else-is_ascii_digit
+returns-else-is_ascii_digit c =
     c.parse_letter.ensures
-    ∙ by_turn _ _ _ c.loop-at-test.true _ (flags_letter _ _ _ c.flag_step.ensures c.in_default.is (sym c.is_digit.ensures ∙ c.if-is_digit.false))
+    ∙ by_turn _ _ _ c.loop-at-test.true _ (flags_letter _ _ _ c.flag_step.ensures c.in_default.is (sym c.is_ascii_digit.ensures.value ∙ c.if-is_ascii_digit.false))
     ∙ c.loop-at.invariant
 
 pub loop-at-preserved : goal.loop-at-preserved
-loop-at-preserved c = by_turn _ _ _ c.loop-at-test.true _ (flags_flag _ _ _ c.flag_step.ensures _ c.in-Flag.is) ∙ c.loop-at.invariant
+loop-at-preserved c = by_turn _ _ _ c.loop-at-test.true _ (flags_flag _ _ _ c.flag_step.ensures _ c.in-Some.is) ∙ c.loop-at.invariant
 
 pub returns : goal.returns
 unfolding open?

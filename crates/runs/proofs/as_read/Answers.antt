@@ -6,4 +6,4 @@ use Rattle.runs.proofs.as_read.Goals as goal
 
 pub returns : goal.returns
 returns c l e =
-    numbers_read c.args.s l _ _ (c.smaller_of.ensures ∙ ap (λ (n : ℕ). min c.args.s.kept n) (sym e)) c.known.ensures
+    numbers_read c.args.s l _ _ (c.min.ensures ∙ ap (λ (n : ℕ). min c.args.s.kept n) (sym e)) c.known.ensures

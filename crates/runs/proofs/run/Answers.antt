@@ -1,6 +1,7 @@
 -- An answer repeated, a check that fails, or the run read.
-use mathlib.Core.Path.{refl, sym, ◌∙◌}
+use mathlib.Core.Path.{refl, sym}
 use lib.ListN.{length}
+use Rattle.rules.specs.Refusal.{number_in_check}
 use Rattle.rules.specs.Runs.{bring}
 use Rattle.runs.proofs.NumberLaws.{run_good}
 use Rattle.runs.proofs.EntryLaws.{after_end, after_refusal, run_own_lem, run_through}
@@ -16,17 +17,20 @@ returns-then-was-ne0 c =
     let a = c.args in
     after_refusal a.zone.now a.«record» a.s a.store.now a.buffer.now _ (c.as_read-was.ensures _ refl) (bring a.bytes.now) c.if-was-ne0.true
 
-pub returns-then-number-ne0 : goal.returns-then-number-ne0
-returns-then-number-ne0 c =
+pub returns-in-Err : goal.returns-in-Err
+unfolding number_in_check
+returns-in-Err c =
     let a = c.args in
-    run_own_lem a.zone.now a.«record» a.s a.store.now a.buffer.now _ (c.as_read-was.ensures _ refl) a.bytes.now c.if-was.false c.if-was-ne0.false _ c.run_number-number.ensures _ c.if-number-ne0.true c.refused.ensures
+    run_own_lem a.zone.now a.«record» a.s a.store.now a.buffer.now _ (c.as_read-was.ensures _ refl) a.bytes.now c.if-was.false c.if-was-ne0.false _ c.in-Err.ensures _ c.refused.ensures
 
 pub read_run-requires : goal.read_run-requires
+unfolding number_in_check
 read_run-requires c =
     let a = c.args in
-    run_good _ (length a.bytes.now) (length a.zone.now) (length a.buffer.now) (length a.store.now) (sym c.run_number-number.ensures ∙ c.if-number-ne0.false)
+    run_good _ (length a.bytes.now) (length a.zone.now) (length a.buffer.now) (length a.store.now) (sym c.in_default.ensures)
 
 pub returns : goal.returns
+unfolding number_in_check
 returns c =
     let a = c.args in
-    run_through a.zone.now a.«record» a.s a.store.now a.buffer.now _ (c.as_read-was.ensures _ refl) a.bytes.now c.if-was.false c.if-was-ne0.false _ c.run_number-number.ensures c.if-number-ne0.false _ c.read_run.ensures
+    run_through a.zone.now a.«record» a.s a.store.now a.buffer.now _ (c.as_read-was.ensures _ refl) a.bytes.now c.if-was.false c.if-was-ne0.false c.in_default.ensures _ c.read_run.ensures

@@ -1,24 +1,16 @@
 -- Too long; not well stored; or the stamp's answer, by its place.
-use mathlib.Core.Path.{◌≡◌, refl, sym}
+use mathlib.Core.Path.{◌≡◌}
 use mathlib.Core.List.{List}
-use Prim.Native.Nat.{ℕ, ◌≤◌}
+use Prim.Native.Nat.{ℕ, ◌+◌, ◌≤◌}
 use native.Mathlib.Omega.{arith}
 use lib.ListN.{length, replicate}
 use lib.Seq.{length-take-le}
 use Rattle.rules.proofs.StoredAnswers.{length_too_long, stored_zone_too_long, stored_buffer_too_long}
 use Rattle.text.proofs.PlaceLaws.{refused_yes, refused_no}
-use Rattle.sections.specs.declared.Counts.{Counts}
-use Rattle.sections.specs.declared.Counts.TheVariants.{Agree, Disagree}
-use Rattle.sections.proofs.CountLaws.{counts_disagree, counts_agree}
 use Rattle.rules.proofs.Promised.{declined}
 use Rattle.strftime.proofs.EntryOutcomes.{refused_there, done_there}
 use Rattle.stored.proofs.Outcomes.{sound, unsound, unfit, runs_all, refusal_there}
 use Rattle.stored.proofs.format_stored.Goals as goal
-
--- what `let .. else`, for counts that agree, leaves
-disagree : (x : Counts) → ((l d : ℕ) → x ≡ Agree l d → ⊥) → x ≡ Disagree
-disagree (Agree l d) f = absurd (f l d refl)
-disagree Disagree f = refl
 
 abbrev scratch : List ℕ
 scratch = replicate 192 0
@@ -40,28 +32,22 @@ returns-then-room-gt-LONGEST_BUFFER c =
 
 pub returns-in_default : goal.returns-in_default
 returns-in_default c =
-    let w = unfit c.args.stored.now c.args.format_length c.args.zone.now c.args.record (length c.args.buffer.now) c.if-format_length-gt-LONGEST_FORMAT.false c.if-zone-gt-LONGEST_ZONE.false c.if-room-gt-LONGEST_BUFFER.false c.args.buffer.now (counts_disagree _ (disagree _ c.in_default.not-Agree) c.counts_of-counts.ensures) in
+    let w = unfit c.args.stored.now c.args.format_length c.args.zone.now c.args.record (length c.args.buffer.now) c.if-format_length-gt-LONGEST_FORMAT.false c.if-zone-gt-LONGEST_ZONE.false c.if-room-gt-LONGEST_BUFFER.false c.args.buffer.now c.in_default.ensures in
     record { answer = w.0; buffer = w.1 }
-
-pub overflow_add-literals : goal.overflow_add-literals
-overflow_add-literals c = omega (arith, (counts_agree _ c.in-Agree.is c.counts_of-counts.ensures).bytes)
-
-pub entries_taken-requires : goal.entries_taken-requires
-entries_taken-requires c = omega (arith, (counts_agree _ c.in-Agree.is c.counts_of-counts.ensures).bytes)
 
 pub returns-then-not-entries_taken : goal.returns-then-not-entries_taken
 returns-then-not-entries_taken c =
-    let w = unfit c.args.stored.now c.args.format_length c.args.zone.now c.args.record (length c.args.buffer.now) c.if-format_length-gt-LONGEST_FORMAT.false c.if-zone-gt-LONGEST_ZONE.false c.if-room-gt-LONGEST_BUFFER.false c.args.buffer.now (unsound (counts_agree _ c.in-Agree.is c.counts_of-counts.ensures) c.entries_taken.ensures c.if-not-entries_taken.true) in
+    let place : c.entry_at.result ≡ 4 + c.in-Some.counts.literals = omega (arith, c.entry_at.ensures) in
+    let first = rw place at c.entries_taken.ensures in
+    let w = unfit c.args.stored.now c.args.format_length c.args.zone.now c.args.record (length c.args.buffer.now) c.if-format_length-gt-LONGEST_FORMAT.false c.if-zone-gt-LONGEST_ZONE.false c.if-room-gt-LONGEST_BUFFER.false c.args.buffer.now (unsound c.in-Some.ensures first c.if-not-entries_taken.true) in
     record { answer = w.0; buffer = w.1 }
-
-pub slice_bounds-stamp-end : goal.slice_bounds-stamp-end
-slice_bounds-stamp-end c = sym (length-take-le _ scratch (omega (arith, c.part_of-part.ensures)))
 
 pub stamp-end-requires : goal.stamp-end-requires
 stamp-end-requires c =
     let part = c.part_of-part.result in
+    let place : c.entry_at.result ≡ 4 + c.in-Some.counts.literals = omega (arith, c.entry_at.ensures) in
     let small : part ≤ 192 = omega (arith, c.part_of-part.ensures) in
-    (record { within = omega (arith, c.part_of-part.ensures, length-take-le part scratch small); small = c.if-room-gt-LONGEST_BUFFER.false }, sound (counts_agree _ c.in-Agree.is c.counts_of-counts.ensures) c.entries_taken.ensures c.if-not-entries_taken.false)
+    (record { within = omega (arith, c.part_of-part.ensures, length-take-le part scratch small); small = c.if-room-gt-LONGEST_BUFFER.false }, sound c.in-Some.ensures (rw place at c.entries_taken.ensures) c.if-not-entries_taken.false)
 
 pub returns-then-is_refused : goal.returns-then-is_refused
 returns-then-is_refused c =

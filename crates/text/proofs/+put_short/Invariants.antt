@@ -3,4 +3,4 @@ use lib.ListN.{length}
 use Rattle.text.proofs.+put_short.Given as goal
 
 abbrev pub decreases-put_short : goal.decreases-put_short
-decreases-put_short l = length l.src.now
+decreases-put_short g l = length (g.S.Source.bytes l.source)

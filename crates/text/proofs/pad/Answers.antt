@@ -16,7 +16,7 @@ returns-then-count-eq0 c =
       | then-count-eq0-via-then-count-eq0 w ↦ absurd (omega (arith, w.if-count-eq0.true))
       | then-count-eq0-via-else-count-eq0+then-fits w ↦ fits_yes _ _ w.fits.ensures w.if-fits.true
     ])
-    (c.run_short.ensures _)
+    (c.put_short.ensures _)
 
 pub returns : goal.returns
 returns c =

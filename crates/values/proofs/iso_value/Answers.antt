@@ -22,7 +22,7 @@ unfolding value_of default_width fill_of number_fields
 returns-in-YearIso8601Rem100 c =
     let iso = c.iso-iso in
     let year = to_z-of_z w64 iso.result.year (omega arith) in
-    let rem = c.rem_euclid_100_wide.ensures ∙ ap (λ (y : ℤ). floor_mod y 100) year in
+    let rem = c.rem_euclid_100.ensures ∙ ap (λ (y : ℤ). floor_mod y 100) year in
     λ h. week_checked c.in-YearIso8601Rem100.is refl refl (λ w. ap pos (rem ∙ ap (λ (i : IsoWeek). floor_mod i.year 100) (iso.ensures w))) c.weekly.ensures
 
 pub returns-in_default : goal.returns-in_default

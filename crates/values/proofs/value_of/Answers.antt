@@ -3,7 +3,7 @@ use mathlib.Core.Path.{refl, ap, ◌∙◌}
 use native.Mathlib.Omega.{arith}
 use lib.IntN.{ℤ, pos}
 use mir.Syntax.{w32, w64}
-use mir.ValLaws.{to_z-of_z, to_z_pos}
+use mir.ValLaws.{to_z-of_z}
 use Rattle.rules.specs.Decimal.{floor_div, floor_mod}
 use Rattle.rules.specs.Writing.{value_of, default_width, fill_of, number_fields}
 use Rattle.numbers.proofs.Signed.{widens, widened}
@@ -12,9 +12,6 @@ use Rattle.values.proofs.value_of.Goals as goal
 
 pub overflow_cast-record : goal.overflow_cast-record
 overflow_cast-record c = widens c.args.«record».year (omega arith)
-
-pub overflow_cast-div_euclid_100 : goal.overflow_cast-div_euclid_100
-overflow_cast-div_euclid_100 c = widens c.div_euclid_100.result (record { sfits = c.div_euclid_100.type_inv })
 
 pub returns-in-Year4Digits : goal.returns-in-Year4Digits
 unfolding value_of default_width fill_of number_fields
@@ -25,13 +22,13 @@ unfolding value_of default_width fill_of number_fields
 returns-in-YearDiv100 c =
     let q = c.div_euclid_100 in
     let year = to_z-of_z w32 c.args.«record».year (omega arith) in
-    unchecked c.in-YearDiv100.is refl refl (widened _ (record { sfits = q.type_inv }) ∙ q.ensures ∙ ap (λ (y : ℤ). floor_div y 100) year) c.wide.ensures
+    unchecked c.in-YearDiv100.is refl refl (to_z-of_z w32 q.result (record { sfits = q.type_inv }) ∙ q.ensures ∙ ap (λ (y : ℤ). floor_div y 100) year) c.zeros.ensures
 
 pub returns-in-YearRem100 : goal.returns-in-YearRem100
 unfolding value_of default_width fill_of number_fields
 returns-in-YearRem100 c =
     let year = to_z-of_z w32 c.args.«record».year (omega arith) in
-    unchecked c.in-YearRem100.is refl refl (ap pos (c.rem_euclid_100.ensures ∙ ap (λ (y : ℤ). floor_mod y 100) year)) c.zeros.ensures
+    unchecked c.in-YearRem100.is refl refl (ap pos (c.rem_euclid_100.ensures ∙ ap (λ (y : ℤ). floor_mod y 100) year)) c.zeros-in-YearRem100.ensures
 
 pub returns-in-Month : goal.returns-in-Month
 unfolding value_of default_width fill_of number_fields
@@ -47,9 +44,7 @@ returns-in-MonthDaySpace c = checked c.in-MonthDaySpace.is refl refl c.day-in-Mo
 
 pub returns-in-YearDay : goal.returns-in-YearDay
 unfolding value_of default_width fill_of number_fields
-returns-in-YearDay c =
-    let day = to_z_pos w64 c.args.«record».day_of_year (omega arith) in
-    checked c.in-YearDay.is refl refl c.day_of_year.ensures day c.wide-in-YearDay.ensures
+returns-in-YearDay c = checked c.in-YearDay.is refl refl c.day_of_year.ensures refl c.zeros-in-YearDay.ensures
 
 pub returns-in-Hour24hZero : goal.returns-in-Hour24hZero
 unfolding value_of default_width fill_of number_fields
@@ -93,4 +88,4 @@ returns-in-WeekNumberFromMonday c = week_checked c.in-WeekNumberFromMonday.is re
 
 pub returns-in-SecondsSinceEpoch : goal.returns-in-SecondsSinceEpoch
 unfolding value_of default_width fill_of number_fields
-returns-in-SecondsSinceEpoch c = unchecked c.in-SecondsSinceEpoch.is refl refl (to_z-of_z w64 c.args.«record».to_int (omega arith)) c.wide-in-SecondsSinceEpoch.ensures
+returns-in-SecondsSinceEpoch c = unchecked c.in-SecondsSinceEpoch.is refl refl (to_z-of_z w64 c.args.«record».to_int (omega arith)) c.zeros-in-SecondsSinceEpoch.ensures

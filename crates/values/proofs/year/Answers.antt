@@ -15,10 +15,10 @@ use Rattle.values.proofs.year.Goals.{After-year_width}
 width_is : (c : After-year_width) → c.year_width.result ≡ year_width c.args.year
 width_is c = c.year_width.ensures ∙ ap year_width (to_z-of_z w64 _ c.ranges.year)
 
-pub wide-requires : goal.wide-requires
-wide-requires c = omega (arith, width_is (goal.at.wide-requires c).After-year_width, year_narrow c.args.year)
+pub zeros-requires : goal.zeros-requires
+zeros-requires c = omega (arith, width_is (goal.at.zeros-requires c).After-year_width, year_narrow c.args.year)
 
 pub returns : goal.returns
 returns c =
-    subst (λ (w : ℕ). Valued c.args.ok c.args.year w false c.wide.result) (width_is (goal.at.returns c).After-year_width)
-    (renumbered (to_z-of_z w64 _ c.ranges.year) c.wide.ensures)
+    subst (λ (w : ℕ). Valued c.args.ok c.args.year w false c.zeros.result) (width_is (goal.at.returns c).After-year_width)
+    (renumbered (to_z-of_z w64 _ c.ranges.year) c.zeros.ensures)

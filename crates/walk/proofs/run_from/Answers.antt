@@ -2,7 +2,7 @@
 use native.Mathlib.Omega.{arith}
 use Rattle.text.proofs.RanLaws.{room_kept}
 use Rattle.reading.proofs.Positions.{items_at}
-use Rattle.letters.proofs.LetterLaws.{was_letter, left_alone, room_left}
+use Rattle.letters.proofs.LetterLaws.{was_letter, left_alone}
 use Rattle.walk.proofs.LetterLaws.{step_plain, step_unread}
 use Rattle.walk.proofs.WalkLaws.{walk_start, walk_item, walk_literals, walk_end}
 use Rattle.walk.proofs.run_from.Goals as goal
@@ -10,18 +10,8 @@ use Rattle.walk.proofs.run_from.Goals as goal
 pub loop-i-init : goal.loop-i-init
 loop-i-init c = walk_start c.requires.1
 
-pub letter-place-requires : goal.letter-place-requires
-letter-place-requires c = room_kept c.loop-i.invariant.ran c.requires.0
-
 pub loop-i-preserved-then-place-ne-NOT_A_LETTER : goal.loop-i-preserved-then-place-ne-NOT_A_LETTER
 loop-i-preserved-then-place-ne-NOT_A_LETTER c = walk_item _ c.loop-i.invariant (step_plain c.if-format-i-eq37.true c.byte_at-b.ensures (was_letter c.letter-place.ensures c.if-place-ne-NOT_A_LETTER.true))
-
-pub marked_item-step-requires : goal.marked_item-step-requires
-marked_item-step-requires c =
-    (room_left c.letter-place.ensures (room_kept c.loop-i.invariant.ran c.requires.0), c.loop-i-test.true, c.if-format-i-eq37.true)
-
-pub loop-i-smaller-else-place-ne-NOT_A_LETTER : goal.loop-i-smaller-else-place-ne-NOT_A_LETTER
-loop-i-smaller-else-place-ne-NOT_A_LETTER c = omega (arith, c.marked_item-step.ensures.onward, c.marked_item-step.ensures.within)
 
 pub loop-i-preserved-else-place-ne-NOT_A_LETTER : goal.loop-i-preserved-else-place-ne-NOT_A_LETTER
 loop-i-preserved-else-place-ne-NOT_A_LETTER c = walk_item _ c.loop-i.invariant (step_unread (left_alone c.letter-place.ensures c.requires.0.small c.if-place-ne-NOT_A_LETTER.false) c.marked_item-step.ensures)

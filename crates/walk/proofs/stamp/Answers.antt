@@ -1,39 +1,23 @@
 -- The loop keeps `Stamping`. An item that ends within the scratch is one of its steps; from any other, `rest` goes on.
-use native.Mathlib.Omega.{arith}
 use Rattle.text.proofs.RanLaws.{before, kept}
-use Rattle.letters.proofs.LetterLaws.{left_alone, length_left, room_left, ended_within, front_left}
+use Rattle.letters.proofs.LetterLaws.{left_alone, length_left, ended_within, front_left}
 use Rattle.walk.proofs.LetterLaws.{step_plain, step_unread}
 use Rattle.walk.proofs.LiteralLaws.{copied_kept, copied_before}
-use Rattle.walk.proofs.StampLaws.{stamping_start, stamping_room, stamping_item, stamping_literals, handed_over, handed_back, stamping_copies, stamping_end}
+use Rattle.walk.proofs.StampLaws.{stamping_start, stamping_room, stamping_item, stamping_literals, handed_over, stamping_end}
 use Rattle.walk.proofs.stamp.Goals as goal
 
 pub loop-i-init : goal.loop-i-init
 loop-i-init c = stamping_start
-
-pub letter-place-requires : goal.letter-place-requires
-letter-place-requires c = stamping_room c.requires c.loop-i.invariant
 
 pub loop-i-preserved-then-place-out : goal.loop-i-preserved-then-place-out
 loop-i-preserved-then-place-out c =
     let w = c.loop-i.invariant in
     stamping_item c.requires w _ (step_plain c.if-format-i-eq37.true c.byte_at-b.ensures (ended_within c.letter-place.ensures (stamping_room c.requires w) c.if-place-out.true)) c.if-place-out.true
 
-pub marked_item-step-requires : goal.marked_item-step-requires
-marked_item-step-requires c =
-    (room_left c.letter-place.ensures (stamping_room c.requires c.loop-i.invariant), c.loop-i-test.true, c.if-format-i-eq37.true)
-
 pub rest-requires : goal.rest-requires
 rest-requires c =
     let w = step_unread (left_alone c.letter-place.ensures c.requires.buffer_fits c.if-place-eq-NOT_A_LETTER.true) c.marked_item-step.ensures in
     handed_over c.requires c.loop-i.invariant (before w.ran) (kept w.ran) c.limit_of-limit.ensures
-
-pub returns-then-out-step : goal.returns-then-out-step
-returns-then-out-step c =
-    let w = step_unread (left_alone c.letter-place.ensures c.requires.buffer_fits c.if-place-eq-NOT_A_LETTER.true) c.marked_item-step.ensures in
-    handed_back c.requires c.loop-i.invariant (kept w.ran) c.rest.ensures
-
-pub loop-i-smaller-then-place-eq-NOT_A_LETTER : goal.loop-i-smaller-then-place-eq-NOT_A_LETTER
-loop-i-smaller-then-place-eq-NOT_A_LETTER c = omega (arith, c.marked_item-step.ensures.onward, c.marked_item-step.ensures.within)
 
 pub loop-i-preserved-then-place-eq-NOT_A_LETTER : goal.loop-i-preserved-then-place-eq-NOT_A_LETTER
 loop-i-preserved-then-place-eq-NOT_A_LETTER c =
@@ -43,33 +27,12 @@ pub rest-requires-else-place-eq-NOT_A_LETTER : goal.rest-requires-else-place-eq-
 rest-requires-else-place-eq-NOT_A_LETTER c =
     handed_over c.requires c.loop-i.invariant (front_left c.letter-place.ensures) (length_left c.letter-place.ensures) c.limit_of-limit.ensures
 
-pub returns-else-place-eq-NOT_A_LETTER : goal.returns-else-place-eq-NOT_A_LETTER
-returns-else-place-eq-NOT_A_LETTER c = handed_back c.requires c.loop-i.invariant (length_left c.letter-place.ensures) c.rest-else-place-eq-NOT_A_LETTER.ensures
-
-pub copy_literal-end-requires : goal.copy_literal-end-requires
-copy_literal-end-requires c = (c.loop-i.invariant.begun.front.inside, c.loop-i.invariant.begun.within)
-
 pub rest-requires-then-end-i : goal.rest-requires-then-end-i
 rest-requires-then-end-i c =
     handed_over c.requires c.loop-i.invariant (copied_before c.copy_literal-end.ensures) (copied_kept c.copy_literal-end.ensures) c.limit_of-limit.ensures
 
-pub returns-then-end-i : goal.returns-then-end-i
-returns-then-end-i c = handed_back c.requires c.loop-i.invariant (copied_kept c.copy_literal-end.ensures) c.rest-then-end-i.ensures
-
-pub overflow_sub-at : goal.overflow_sub-at
-overflow_sub-at c = omega (arith, c.copy_literal-end.ensures.onward)
-
-pub overflow_add-at : goal.overflow_add-at
-overflow_add-at c = omega (arith, c.copy_literal-end.ensures.inside)
-
-pub loop-i-smaller : goal.loop-i-smaller
-loop-i-smaller c = omega (arith, c.copy_literal-end.ensures.onward, c.copy_literal-end.ensures.within)
-
 pub loop-i-preserved : goal.loop-i-preserved
 loop-i-preserved c = stamping_literals c.requires c.loop-i.invariant c.copy_literal-end.ensures c.if-end-i.false
-
-pub copy_front-requires : goal.copy_front-requires
-copy_front-requires c = stamping_copies c.requires c.loop-i.invariant
 
 pub returns : goal.returns
 returns c = stamping_end c.requires c.loop-i.invariant c.loop-i-test.false c.limit_of-limit.ensures c.copy_front.ensures

@@ -4,8 +4,8 @@ use lib.ListN.{length}
 use Rattle.compiled.proofs.SectionLaws.{Walked}
 use Rattle.compiled.proofs.put.put_section.Given as goal
 
-abbrev pub invariant-loop-i : goal.invariant-loop-i
-invariant-loop-i l = (l.index ≤ l.i) × Walked l.room l.section l.format l.initial.out l.start l.index l.i l.out l.at
+abbrev pub invariant-loop-next : goal.invariant-loop-next
+invariant-loop-next g l = (l.index ≤ l.i) × (l.i ≤ length l.format) × Walked l.room g.S.Section.which l.format l.initial.out l.start l.index l.i l.out l.at
 
-abbrev pub decreases-loop-i : goal.decreases-loop-i
-decreases-loop-i l = length l.format - l.i
+abbrev pub decreases-loop-next : goal.decreases-loop-next
+decreases-loop-next g l = length l.format - l.i

@@ -3,4 +3,4 @@ use Rattle.compiled.proofs.CompileLaws.{section_placed}
 use Rattle.compiled.proofs.put.section_length.Goals as goal
 
 pub returns : goal.returns
-returns c = section_placed _ _ c.requires c.put_section.ensures
+returns g c = section_placed _ _ c.requires c.put_section.ensures

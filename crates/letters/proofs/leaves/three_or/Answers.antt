@@ -1,20 +1,16 @@
 -- The check, and three digits.
 use Prim.Native.Nat.{◌<◌}
 use lib.Dec.{lit≤}
-use Rattle.text.proofs.JudgedLaws.{verdict_held}
-use Rattle.combination_directive.proofs.CombinedLaws.{judgeable}
+use Rattle.text.proofs.JudgedLaws.{check_held}
 use Rattle.letters.proofs.LeafLaws.{refused, written, as_places}
 use Rattle.letters.proofs.leaves.three_or.Goals as goal
-use Rattle.letters.proofs.leaves.three_or.Goals.{Else-verdict-ne0}
+use Rattle.letters.proofs.leaves.three_or.Goals.{In_default}
 
-few : (c : Else-verdict-ne0) → c.args.v < 1000
-few c = c.requires.1 (verdict_held _ c.verdict-verdict.ensures c.if-verdict-ne0.false)
+few : (c : In_default) → c.args.v < 1000
+few c = c.requires.1 (check_held _ c.verdict.ensures c.in_default.is)
 
-pub judged-requires : goal.judged-requires
-judged-requires c = judgeable _ c.verdict-verdict.ensures
-
-pub returns-then-verdict-ne0 : goal.returns-then-verdict-ne0
-returns-then-verdict-ne0 c = refused _ _ _ _ c.verdict-verdict.ensures c.if-verdict-ne0.true c.judged.ensures
+pub returns-in-Err : goal.returns-in-Err
+returns-in-Err c = refused _ _ _ _ c.verdict.ensures c.in-Err.is c.refused_at.ensures
 
 pub returns : goal.returns
-returns c = written _ _ _ _ c.verdict-verdict.ensures c.if-verdict-ne0.false (lit≤ tt) (as_places 3 _ (few (goal.at.returns c).Else-verdict-ne0) (lit≤ tt)) c.put_places.ensures
+returns c = written _ _ _ _ (check_held _ c.verdict.ensures c.in_default.is) (lit≤ tt) (as_places 3 _ (few (goal.at.returns c).In_default) (lit≤ tt)) c.put_places.ensures

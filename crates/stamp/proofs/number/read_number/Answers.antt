@@ -1,45 +1,33 @@
 -- `read_number`: what is read so far and the bytes from there say what all of them say.
-use mathlib.Core.Path.{◌∙◌}
-use native.Mathlib.Omega.{arith}
-use borrow.Author.Rules.{rules}
-use Rattle.stamp.proofs.NumberLaws.{nothing, opened, whole, low, high, digit, past}
+use Rattle.std.proofs.Common.{sym, ◌∙◌, arith, rules}
+use Rattle.stamp.proofs.NumberLaws.{nothing, opened, over, whole, other, digit, past}
 use Rattle.stamp.proofs.number.read_number.Goals as goal
 
-pub returns-then-bytes-from : goal.returns-then-bytes-from
-returns-then-bytes-from c = nothing _ _ _ c.if-bytes-from.true
+pub returns-then-is_empty : goal.returns-then-is_empty
+returns-then-is_empty c = nothing _ _ (search rules)
 
-pub loop-at-init : goal.loop-at-init
-loop-at-init c = (search rules, opened _ _ _ c.if-bytes-from.false)
+pub loop-byte-init : goal.loop-byte-init
+loop-byte-init c = opened _ _ (search rules)
 
-pub returns-then-byte-lt48 : goal.returns-then-byte-lt48
-returns-then-byte-lt48 c =
-    let k = c.loop-at in
-    let a = c.args in
-    low a.most k.value a.bytes.now k.at c.loop-at-test.true c.if-byte-lt48.true ∙ k.invariant.1
+pub returns-then-not-is_ascii_digit : goal.returns-then-not-is_ascii_digit
+returns-then-not-is_ascii_digit c = other _ _ _ _ c.loop-byte-test.true (sym c.is_ascii_digit.ensures.value ∙ c.if-not-is_ascii_digit.true) ∙ c.loop-byte.invariant
 
-pub returns-then-byte-gt57 : goal.returns-then-byte-gt57
-returns-then-byte-gt57 c =
-    let k = c.loop-at in
-    let a = c.args in
-    high a.most k.value a.bytes.now k.at c.loop-at-test.true c.if-byte-gt57.true ∙ k.invariant.1
+pub returns-in_err-checked_mul : goal.returns-in_err-checked_mul
+returns-in_err-checked_mul c =
+    let past = past c.args.most c.loop-byte.value c.args.bytes.now _ c.loop-byte-test.true (sym c.is_ascii_digit.ensures.value ∙ c.if-not-is_ascii_digit.false) (omega arith) in
+    cc (past, c.loop-byte.invariant)
 
-pub returns-then-most-digit : goal.returns-then-most-digit
-returns-then-most-digit c =
-    let k = c.loop-at in
-    let a = c.args in
-    past a.most k.value a.bytes.now k.at c.loop-at-test.true c.if-byte-lt48.false c.if-byte-gt57.false (omega arith) ∙ k.invariant.1
+pub returns-in_err-value : goal.returns-in_err-value
+returns-in_err-value c =
+    let past = past c.args.most c.loop-byte.value c.args.bytes.now _ c.loop-byte-test.true (sym c.is_ascii_digit.ensures.value ∙ c.if-not-is_ascii_digit.false) (omega arith) in
+    cc (past, c.loop-byte.invariant)
 
-pub returns-then-most-digit-2 : goal.returns-then-most-digit-2
-returns-then-most-digit-2 c =
-    let k = c.loop-at in
-    let a = c.args in
-    past a.most k.value a.bytes.now k.at c.loop-at-test.true c.if-byte-lt48.false c.if-byte-gt57.false (omega arith) ∙ k.invariant.1
+pub loop-byte-preserved : goal.loop-byte-preserved
+loop-byte-preserved c =
+    digit _ c.loop-byte.value _ _ c.loop-byte-test.true (sym c.is_ascii_digit.ensures.value ∙ c.if-not-is_ascii_digit.false) c.in_ok-value.value (omega arith) ∙ c.loop-byte.invariant
 
-pub loop-at-preserved : goal.loop-at-preserved
-loop-at-preserved c =
-    let k = c.loop-at in
-    let a = c.args in
-    (omega arith, digit a.most k.value a.bytes.now k.at c.loop-at-test.true c.if-byte-lt48.false c.if-byte-gt57.false ∙ k.invariant.1)
+pub returns-then-most-value : goal.returns-then-most-value
+returns-then-most-value c = over _ _ _ c.if-most-value.true ∙ c.loop-byte.invariant
 
 pub returns : goal.returns
-returns c = let k = c.loop-at in whole _ k.value _ k.at c.loop-at-test.false k.invariant.0 ∙ k.invariant.1
+returns c = whole _ _ _ c.loop-byte.byte-index (omega arith) (omega arith) ∙ c.loop-byte.invariant

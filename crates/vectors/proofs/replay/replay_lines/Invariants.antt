@@ -1,13 +1,8 @@
--- `replay_lines`: there are no more answers than bytes, and no more that differ than answers; the lent buffers keep their lengths.
-use mathlib.Core.Path.{◌≡◌}
-use Prim.Native.Nat.{◌≤◌, ◌-◌}
-use lib.ListN.{length}
+-- `replay_lines`: each answer took a byte of the list, and no more differ than there are answers.
+use Rattle.std.proofs.Common.{◌+◌, ◌≤◌, length}
+use Rattle.std.specs.Slice.Iter.{split_inclusive_rest}
 use Rattle.vectors.proofs.replay.replay_lines.Given as goal
 
-abbrev pub invariant-loop-at : goal.invariant-loop-at
-invariant-loop-at l =
-    (l.answers ≤ l.at) × (l.differ ≤ l.answers) × (length l.format ≡ length l.initial.format) × (length l.zone ≡ length l.initial.zone) × (length l.text ≡ length l.initial.text) × (length l.ground ≡ length l.initial.ground)
-
-abbrev pub decreases-loop-at : goal.decreases-loop-at
-decreases-loop-at l =
-    length l.list - l.at
+abbrev pub invariant-loop-line : goal.invariant-loop-line
+invariant-loop-line l =
+    (goal.iterator-loop-line).can_next l.line-iterator × (goal.iterator-loop-line).is_finite l.line-iterator × (l.answers + length (split_inclusive_rest l.line-iterator) ≤ length l.list) × (l.differ ≤ l.answers)

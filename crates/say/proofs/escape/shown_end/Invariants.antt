@@ -1,9 +1,0 @@
--- `shown_end` goes on within the bytes.
-use Rattle.std.proofs.Common.{length, ◌-◌, ◌≤◌}
-use Rattle.say.proofs.escape.shown_end.Given as goal
-
-abbrev pub invariant-loop-end : goal.invariant-loop-end
-invariant-loop-end l = (l.at ≤ l.end) × (l.end ≤ length l.bytes)
-
-abbrev pub decreases-loop-end : goal.decreases-loop-end
-decreases-loop-end l = length l.bytes - l.end
