@@ -9,7 +9,9 @@ ghost use Rattle.rules.specs.Refusal.{numbered};
 ghost use Rattle.rules.specs.Event.{reported, buffer_after};
 ghost use Rattle.rules.specs.Stored.{compiled};
 
-use put::{Directives, Literals, Steps, put_counted, section_length};
+pub use parts::Next;
+use put::{put_counted, section_length};
+pub use put::{Directives, Literals, Section, Steps};
 use reading::fault_of;
 use rules::{LONGEST_BUFFER, LONGEST_FORMAT, Refusal};
 

@@ -35,12 +35,12 @@ pub fn part_at(format: &[u8], i: usize) -> Option<Next>
     requires { i ≤ length format.now }
     ensures { NextPart format.now i result }
 {
+    if format.len() <= i {
+        return None;
+    }
     let end = text_end(format, i);
     if i < end {
         return Some(Next::Text(end));
-    }
-    if format.len() <= i {
-        return None;
     }
     match parse_spec(format, i + 1) {
         Parsed::Directive(piece, next) => Some(Next::Directive(piece, next)),

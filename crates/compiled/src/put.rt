@@ -71,10 +71,13 @@ pub trait Section {
         ensures { (limit : ℕ) → Ran limit room (piece_events which index piece) out.old at out.new result };
 }
 
+#[derive(Clone, Copy)]
 pub struct Literals;
 
+#[derive(Clone, Copy)]
 pub struct Directives;
 
+#[derive(Clone, Copy)]
 pub struct Steps;
 
 impl Section for Literals {

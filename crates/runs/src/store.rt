@@ -1,12 +1,14 @@
 // The store: what is pending stands in front.
 ghost use Rattle.std.specs.Prelude.{◌≡◌, ◌++◌, ◌+◌, ◌≤◌, length, take, drop};
 
+use text::{Bytes, Source};
+
 // The bytes of a run, behind those that are kept.
 pub fn take_in(store: &mut [u8], kept: usize, bytes: &[u8])
     requires { kept + length bytes.now ≤ length store.old }
     ensures { store.new ≡ take kept store.old ++ (bytes.now ++ drop (kept + length bytes.now) store.old) }
 {
-    store[kept..kept + bytes.len()].copy_from_slice(bytes)
+    Bytes(bytes).lay(store, kept)
 }
 
 // The `count` bytes from `from` on, moved to the front.

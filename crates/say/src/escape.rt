@@ -24,9 +24,12 @@ fn escape_to(fd: i32, byte: u8) {
 
 // A control byte, and one from 127 on, as \n, \t or \xNN, and a backslash as two.
 pub fn escaped_to(fd: i32, bytes: &[u8]) {
-    for chunk in bytes.chunk_by(|a, b| is_shown(*a) && is_shown(*b)) {
+    for chunk in bytes.split_inclusive(|byte| !is_shown(*byte)) {
         match chunk {
-            [byte] if !is_shown(*byte) => escape_to(fd, *byte),
+            [shown @ .., byte] if !is_shown(*byte) => {
+                text_to(fd, shown);
+                escape_to(fd, *byte);
+            }
             shown => text_to(fd, shown),
         }
     }

@@ -149,7 +149,7 @@ pub trait Source: Copy {
         ensures { out.new ≡ overlay at (bytes self) out.old };
 }
 
-// A slice.
+// A slice. Its bytes are copied one by one: for `copy_from_slice` the library would need `memmove`.
 #[derive(Clone, Copy)]
 pub struct Bytes<'a>(pub &'a [u8]);
 
@@ -165,7 +165,9 @@ impl<'a> Source for Bytes<'a> {
     }
 
     fn lay(self, out: &mut [u8], at: usize) {
-        out[at..at + self.0.len()].copy_from_slice(self.0)
+        for i in 0..self.0.len() {
+            out[at + i] = self.0[i];
+        }
     }
 }
 
@@ -343,5 +345,5 @@ pub fn copy_front(out: &mut [u8], src: &[u8], count: usize)
     requires { (count ≤ length out.old) × (count ≤ length src.now) }
     ensures { out.new ≡ take count src.now ++ drop count out.old }
 {
-    out[..count].copy_from_slice(&src[..count])
+    Bytes(&src[..count]).lay(out, 0)
 }

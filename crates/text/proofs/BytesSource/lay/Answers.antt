@@ -1,7 +1,10 @@
--- The part that the bytes take is written over.
+-- After i turns the first i bytes lie over out.
 use native.Mathlib.Omega.{arith}
-use Rattle.text.proofs.OverlayLaws.{overlay_part}
+use Rattle.text.proofs.OverlayLaws.{laid_none, laid_more}
 use Rattle.text.proofs.BytesSource.lay.Goals as goal
 
-pub returns : goal.returns
-returns c = overlay_part _ _ _ _ _ c.copy_from_slice.ensures.after (omega arith) (omega (arith, c.requires))
+pub loop-i-init : goal.loop-i-init
+loop-i-init c = laid_none
+
+pub loop-i-preserved : goal.loop-i-preserved
+loop-i-preserved c = laid_more c.loop-i.invariant (omega arith)
